@@ -1,0 +1,2 @@
+-- What C's numbers stand for.
+pub mod Clock

@@ -1,0 +1,20 @@
+use mathlib.Core.Path.{_∙_}
+use borrow.Author.Needs.{needs}
+use lib.Ieee.{binary32, ofBits}
+use Rattle.numbers.proofs.Laws.Floats.{zero-by-zero}
+use Rattle.numbers.proofs.Laws.Patterns.{nan-pattern, number-pattern}
+use Rattle.numbers.proofs.bits.f32_from_bits.Statement.{statement}
+use Rattle.numbers.proofs.bits.f32_from_bits.Tie as tie
+
+float-from-bits-result : tie.Need-float-from-bits-result
+float-from-bits-result c = number-pattern binary32 (c .before .args .b) (c .if1 .left)
+
+returns : tie.Need-returns
+unfolding ofBits
+returns c = zero-by-zero binary32 ∙ nan-pattern binary32 (c .before .args .b) (c .if1 .taken)
+
+returns-2 : tie.Need-returns-2
+returns-2 c = search needs
+
+pub f32-from-bits-spec : {M : Type 1} → statement M
+f32-from-bits-spec = tie.close (tie.spec float-from-bits-result returns returns-2)
