@@ -1,0 +1,58 @@
+//! Prepares the two sides of the comparison: derives the Rust's envelope from
+//! its sources, and links the static library made from the Rattle.
+//!
+//! `WORFELLI_RUST` names the folder of the Rust's sources and `WORFELLI_LIB`
+//! the folder of the library; a relative name is read from this package's
+//! folder. Whatever stands in the way is said in one line.
+
+use std::env;
+use std::path::{Path, PathBuf};
+
+#[path = "build/derive.rs"]
+mod derive;
+#[path = "build/table.rs"]
+mod table;
+
+const LIBRARY: &str = "libexports.a";
+
+fn main() {
+    // An error told to cargo stops the build by itself; a failing exit status
+    // would only print all of this script's output around that one line.
+    if let Err(message) = prepare() {
+        println!("cargo::error={message}");
+    }
+}
+
+fn prepare() -> Result<(), String> {
+    // The script's own files are watched one by one, since naming any file
+    // ends cargo's habit of watching the whole package.
+    for own in ["build.rs", "build/derive.rs", "build/table.rs"] {
+        println!("cargo::rerun-if-changed={own}");
+    }
+    let out = PathBuf::from(env::var_os("OUT_DIR").ok_or("OUT_DIR is not set")?);
+    derive::derive(&folder("WORFELLI_RUST", "../../shared/docs/src")?, &out)?;
+    link(&folder("WORFELLI_LIB", "../target/staticlib")?)
+}
+
+/// The folder that `variable` names, or else `default`, as an absolute path.
+fn folder(variable: &str, default: &str) -> Result<PathBuf, String> {
+    println!("cargo::rerun-if-env-changed={variable}");
+    let named = env::var_os(variable).unwrap_or_else(|| default.into());
+    let package = env::var_os("CARGO_MANIFEST_DIR").ok_or("CARGO_MANIFEST_DIR is not set")?;
+    Ok(Path::new(&package).join(named))
+}
+
+/// Links the library in `folder`.
+fn link(folder: &Path) -> Result<(), String> {
+    let file = folder.join(LIBRARY);
+    println!("cargo::rerun-if-changed={}", file.display());
+    if !file.is_file() {
+        return Err(format!(
+            "no {LIBRARY} in {}: build it first, or name its folder in WORFELLI_LIB",
+            folder.display()
+        ));
+    }
+    println!("cargo::rustc-link-search=native={}", folder.display());
+    println!("cargo::rustc-link-lib=static=exports");
+    Ok(())
+}

@@ -1,0 +1,53 @@
+//! What the static library made from the Rattle exports, as safe functions,
+//! and the names of the exports by group, so that a comparison can tell which
+//! of them it left out. Nothing checks these declarations against the Rattle,
+//! so they are read beside it whenever either changes.
+
+/// Declares a group of exports and the list of their names.
+macro_rules! exports {
+    ($(#[$about:meta])* $list:ident: $(
+        $(#[$meta:meta])* $symbol:literal $name:ident($($arg:ident: $type:ty),*) -> $result:ty;
+    )*) => {
+        // SAFETY: each is proved total on every value of its types, numbers
+        // pass as themselves, and none of them keeps or writes any memory.
+        unsafe extern "C" {
+            $($(#[$meta])* #[link_name = $symbol] pub safe fn $name($($arg: $type),*) -> $result;)*
+        }
+
+        $(#[$about])*
+        pub const $list: &[&str] = &[$(stringify!($name)),*];
+    };
+}
+
+exports! {
+    /// The number helpers.
+    NUMBERS:
+    /// Limited to 0..1, NaN as 0, never negative zero.
+    "worfelli_unit" unit(value: f32) -> f32;
+    /// The larger one; of two zeros the first, and with one NaN the other.
+    "worfelli_max" max(x: f64, y: f64) -> f64;
+    /// `min` if x is below it, else `max` if x is above that, else x.
+    "worfelli_clamp" clamp(x: f64, min: f64, max: f64) -> f64;
+    /// The nearest whole, halves away from zero, held within `u64`; NaN as 0.
+    "worfelli_round_to_u64" round_to_u64(x: f64) -> u64;
+    /// The nearest binary32, ties to even.
+    "worfelli_narrow" narrow(x: f64) -> f32;
+    /// The same number in binary64.
+    "worfelli_widen" widen(x: f32) -> f64;
+    /// The nearest binary64, ties to even.
+    "worfelli_of_u64" of_u64(n: u64) -> f64;
+    /// The bits, those of a NaN being 7fc00000.
+    "worfelli_f32_to_bits" f32_to_bits(x: f32) -> u32;
+    "worfelli_f32_from_bits" f32_from_bits(bits: u32) -> f32;
+    /// The bits, those of a NaN being 7ff8000000000000.
+    "worfelli_f64_to_bits" f64_to_bits(x: f64) -> u64;
+    "worfelli_f64_from_bits" f64_from_bits(bits: u64) -> f64;
+    "worfelli_exp_m1" exp_m1(z: f64) -> f64;
+    "worfelli_exp" exp(z: f64) -> f64;
+    "worfelli_ln_1p" ln_1p(a: f64) -> f64;
+    "worfelli_powi" powi(r: f64, len: u32) -> f64;
+    /// `Timing::samples`, with the unit as whether the value is in beats.
+    "worfelli_samples" samples(
+        beats: bool, value: f32, sample_rate: f64, tempo: f64, scale: f64
+    ) -> u64;
+}
