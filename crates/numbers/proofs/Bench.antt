@@ -4,7 +4,7 @@ use mathlib.Core.Bool.{true, false}
 use lib.IntN.{pos}
 use lib.Ieee.{nan, inf, fin, binary32, binary64, ofBits, toBits, add, sub, eq, ofFields, size, mul, div, ofInt, round, lt, le, isNan}
 use Rattle.numbers.specs.Constants.{zero}
-use Rattle.numbers.specs.Limits.{unit}
+use Rattle.numbers.specs.Limits.{unit, clamp}
 use Rattle.numbers.specs.Conversions.{roundU64, narrow}
 use Rattle.numbers.specs.StandIns.{expM1, ln1p, powi, expSeries, doublings, powBits, lnSeries, lnOf, lnSplit, significand, exponent}
 
@@ -12,7 +12,7 @@ use Rattle.numbers.specs.StandIns.{expM1, ln1p, powi, expSeries, doublin
 pub table : (unit nan ≡ zero) × (unit (fin true 0 (pos 0)) ≡ zero)
     × (roundU64 (ofBits binary64 0x3fdf_ffff_ffff_ffff) ≡ 0) × (roundU64 (ofBits binary64 0x3fe0_0000_0000_0000) ≡ 1)
     × (expM1 zero ≡ zero)
-unfolding unit lt isNan roundU64 ofBits expM1 expSeries doublings add mul div ofInt
+unfolding unit clamp lt isNan roundU64 ofBits expM1 expSeries doublings add mul div ofInt
 table = (refl, refl, refl, refl, refl)
 
 -- 0.1; half of the smallest subnormal, a tie to 0; a tie to the odd neighbour's even one; the largest binary64.

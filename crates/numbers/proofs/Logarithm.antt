@@ -12,37 +12,41 @@ use mir.Syntax.{w32}
 use mir.Val.{SFits, toZ, ofZ}
 use mir.ValLaws.{toZ-pos, toZ-ofZ}
 use borrow.Author.Tests.{lt-leb, le-ltb}
-use lib.Ieee.{Float, nan, inf, fin, binary64, add, sub, mul, div, ofBits, ofInt, ofFields, toBits, isNan, fits, nanBits, eq, lt, le}
+use lib.Ieee.{Float, nan, inf, fin, binary64, div, ofBits, ofInt, ofFields, toBits, isNan, fits, nanBits, eq, lt, le}
 use lib.Ieee.Bits.{nanBits-above, toBits-lt}
 use lib.Ieee.Fits.{add-fits}
 use lib.Ieee.Scale.{finite}
+use Rattle.numbers.specs.Rounded.{_⊕_, _⊖_, _⊗_, _⊘_}
 use Rattle.numbers.specs.Constants as Constants
 use Rattle.numbers.specs.Constants.{one, two, ln2}
 use Rattle.numbers.specs.StandIns.{whole, lnSeries, lnOf, lnSplit, ln1p, significand, exponent}
 use Rattle.numbers.proofs.Laws.Patterns.{ofBits-is}
 use Rattle.numbers.proofs.Significand.{fieldSignificand, fieldExponent, parts-by-fields}
 
--- 1.0 as the code writes it, and w = 1 + a.
+-- 1 and 0.5 as the code writes them, and w = 1 + a.
 abbrev one' : Float
 one' = ofBits binary64 0x3ff0_0000_0000_0000
 
+abbrev half' : Float
+half' = ofBits binary64 0x3fe0_0000_0000_0000
+
 abbrev pub W : Float → Float
-W a = add binary64 one' a
+W a = one' ⊕ a
 
 -- ---- the series
 
 abbrev pub ratio : Float → Float
-ratio m = div binary64 (sub binary64 m one') (add binary64 m one')
+ratio m = (m ⊖ one') ⊘ (m ⊕ one')
 
 abbrev pub firstTerm : Float
-firstTerm = div binary64 one' (ofBits binary64 0x4037_0000_0000_0000)
+firstTerm = one' ⊘ ofBits binary64 0x4037_0000_0000_0000
 
-pub series-step : (n : ℕ) (s t answer : Float) → 0 < n → lnSeries n s t ≡ answer → lnSeries (n - 1) s (add binary64 (div binary64 one' (whole (2 * (n - 1) + 1))) (mul binary64 (mul binary64 s s) t)) ≡ answer
+pub series-step : (n : ℕ) (s t answer : Float) → 0 < n → lnSeries n s t ≡ answer → lnSeries (n - 1) s (one' ⊘ whole (2 * (n - 1) + 1) ⊕ (s ⊗ s) ⊗ t) ≡ answer
 unfolding lnSeries ofBits
 series-step zero s t answer h e = absurd (omega arith)
 series-step (suc n) s t answer h e =
     let p : suc n - 1 ≡ n = omega arith in
-    ap (λ (k : ℕ). lnSeries k s (add binary64 (div binary64 one (whole (2 * k + 1))) (mul binary64 (mul binary64 s s) t))) p ∙ e
+    ap (λ (k : ℕ). lnSeries k s (one ⊘ whole (2 * k + 1) ⊕ (s ⊗ s) ⊗ t)) p ∙ e
 
 pub series-done : (n : ℕ) (s t answer : Float) → n ≤ 0 → lnSeries n s t ≡ answer → t ≡ answer
 unfolding lnSeries
@@ -50,11 +54,11 @@ series-done zero s t answer h e = e
 series-done (suc n) s t answer h e = absurd (omega arith)
 
 pub ln-of-is : (a w m : Float) (e e' : ℤ) (t : Float) → e' ≡ e → t ≡ lnSeries 11 (ratio m) firstTerm
-    → mul binary64 (add binary64 (mul binary64 (ofInt binary64 e') ln2) (mul binary64 (mul binary64 (ofBits binary64 0x4000_0000_0000_0000) (ratio m)) t)) (div binary64 a (sub binary64 w one')) ≡ lnOf a w m e
+    → (ofInt binary64 e' ⊗ ln2 ⊕ (ofBits binary64 0x4000_0000_0000_0000 ⊗ ratio m) ⊗ t) ⊗ (a ⊘ (w ⊖ one')) ≡ lnOf a w m e
 unfolding lnOf ofBits ofInt lnSeries
 ln-of-is a w m e e' t p q =
-    ap (λ (x : ℤ). mul binary64 (add binary64 (mul binary64 (ofInt binary64 x) ln2) (mul binary64 (mul binary64 two (ratio m)) t)) (div binary64 a (sub binary64 w one))) p
-    ∙ ap (λ (x : Float). mul binary64 (add binary64 (mul binary64 (ofInt binary64 e) ln2) (mul binary64 (mul binary64 two (ratio m)) x)) (div binary64 a (sub binary64 w one))) q
+    ap (λ (x : ℤ). (ofInt binary64 x ⊗ ln2 ⊕ (two ⊗ ratio m) ⊗ t) ⊗ (a ⊘ (w ⊖ one))) p
+    ∙ ap (λ (x : Float). (ofInt binary64 e ⊗ ln2 ⊕ (two ⊗ ratio m) ⊗ x) ⊗ (a ⊘ (w ⊖ one))) q
 
 -- ---- the exponent E - 1023, as an i32
 
@@ -84,7 +88,8 @@ module _ (E : ℕ) (h : E < 4096) where
   field-is = toZ-pos w32 E (lt-of-lt-of-le h (lit≤ tt))
 
   pub exponent-fits : SFits w32 (toZ w32 E -ℤ pos 1023)
-  exponent-fits = subst (λ (z : ℤ). SFits w32 (z -ℤ pos 1023)) (sym field-is) (fits-i32 (pos E -ℤ pos 1023) 4096 (lit≤ tt) (sub-mag E 1023 h (lit< tt)))
+  exponent-fits = subst (λ (z : ℤ). SFits w32 (z -ℤ pos 1023)) (sym field-is)
+      (fits-i32 (pos E -ℤ pos 1023) 4096 (lit≤ tt) (sub-mag E 1023 h (lit< tt)))
 
   abbrev stored : ℤ
   stored = toZ w32 (ofZ w32 (toZ w32 E -ℤ pos 1023))
@@ -93,7 +98,8 @@ module _ (E : ℕ) (h : E < 4096) where
   stored-is = toZ-ofZ w32 (toZ w32 E -ℤ pos 1023) exponent-fits ∙ ap (λ (z : ℤ). z -ℤ pos 1023) field-is
 
   pub raised-fits : SFits w32 (stored +ℤ pos 1)
-  raised-fits = subst (λ (z : ℤ). SFits w32 (z +ℤ pos 1)) (sym stored-is) (fits-i32 (pos E -ℤ pos 1023 +ℤ pos 1) 8192 (lit≤ tt) (up-mag (pos E -ℤ pos 1023) (sub-mag E 1023 h (lit< tt))))
+  raised-fits = subst (λ (z : ℤ). SFits w32 (z +ℤ pos 1)) (sym stored-is)
+      (fits-i32 (pos E -ℤ pos 1023 +ℤ pos 1) 8192 (lit≤ tt) (up-mag (pos E -ℤ pos 1023) (sub-mag E 1023 h (lit< tt))))
 
   raised-is : toZ w32 (ofZ w32 (stored +ℤ pos 1)) ≡ pos E -ℤ pos 1023 +ℤ pos 1
   raised-is = toZ-ofZ w32 (stored +ℤ pos 1) raised-fits ∙ ap (λ (z : ℤ). z +ℤ pos 1) stored-is
@@ -142,17 +148,18 @@ unfolding ln1p ofBits
 ln-not-above a h k = simp (h, k, and-false (finite (W a)))
 
 abbrev infinity' : Float
-infinity' = div binary64 one' (ofBits binary64 0)
+infinity' = one' ⊘ ofBits binary64 0
 
 pub ln-infinite : (a : Float) → eq (W a) one' ≡ false → lt (ofBits binary64 0) (W a) ≡ true → lt (W a) infinity' ≡ false → nan ≡ ln1p a
 unfolding ln1p ofBits div
 ln-infinite a h k l = simp (h, k, finite-below (W a) k false l)
 
-ln-parts : (a : Float) → eq (W a) one' ≡ false → lt (ofBits binary64 0) (W a) ≡ true → lt (W a) infinity' ≡ true → lnSplit a (W a) (significand (W a)) (exponent (W a)) ≡ ln1p a
+ln-parts : (a : Float) → eq (W a) one' ≡ false → lt (ofBits binary64 0) (W a) ≡ true → lt (W a) infinity' ≡ true
+    → lnSplit a (W a) (significand (W a)) (exponent (W a)) ≡ ln1p a
 unfolding ln1p ofBits div
 ln-parts a h k l = simp (h, k, finite-below (W a) k true l)
 
-split-halved : (m : Float) → le (ofBits binary64 0x3ff8_0000_0000_0000) m ≡ true → (a w : Float) (e : ℤ) → lnOf a w (mul binary64 m (ofBits binary64 0x3fe0_0000_0000_0000)) (e +ℤ pos 1) ≡ lnSplit a w m e
+split-halved : (m : Float) → le (ofBits binary64 0x3ff8_0000_0000_0000) m ≡ true → (a w : Float) (e : ℤ) → lnOf a w (m ⊗ half') (e +ℤ pos 1) ≡ lnSplit a w m e
 unfolding lnSplit ofBits
 split-halved m h a w e = simp h
 
@@ -191,15 +198,18 @@ module _ (a : Float) (F : T (fits binary64 a)) (h : eq (W a) one' ≡ false) (k 
   exponent-is = parts-by-fields a F k l .1
 
   by-parts : lnSplit a (W a) m' (pos (b / 2 ^ 52) -ℤ pos 1023) ≡ ln1p a
-  by-parts = ap (λ (m : Float). lnSplit a (W a) m (pos (b / 2 ^ 52) -ℤ pos 1023)) significand-is ∙ ap (λ (e : ℤ). lnSplit a (W a) (significand (W a)) e) exponent-is ∙ ln-parts a h k l
+  by-parts =
+      ap (λ (m : Float). lnSplit a (W a) m (pos (b / 2 ^ 52) -ℤ pos 1023)) significand-is
+      ∙ ap (λ (e : ℤ). lnSplit a (W a) (significand (W a)) e) exponent-is
+      ∙ ln-parts a h k l
 
   pub m-not-nan : T (not (nanBits binary64 (b % 2 ^ 52 + 0x3ff0_0000_0000_0000)))
   m-not-nan = digits-not-nan (b % 2 ^ 52) digits
 
   pub ln-halved : (r : Float) → le (ofBits binary64 0x3ff8_0000_0000_0000) m' ≡ true
-      → r ≡ lnOf a (W a) (mul binary64 m' (ofBits binary64 0x3fe0_0000_0000_0000)) (toZ w32 (ofZ w32 (stored (b / 2 ^ 52) field-lt +ℤ pos 1))) → r ≡ ln1p a
+      → r ≡ lnOf a (W a) (m' ⊗ half') (toZ w32 (ofZ w32 (stored (b / 2 ^ 52) field-lt +ℤ pos 1))) → r ≡ ln1p a
   ln-halved r t e =
-      e ∙ ap (lnOf a (W a) (mul binary64 m' (ofBits binary64 0x3fe0_0000_0000_0000))) (raised-is (b / 2 ^ 52) field-lt)
+      e ∙ ap (lnOf a (W a) (m' ⊗ half')) (raised-is (b / 2 ^ 52) field-lt)
       ∙ split-halved m' t a (W a) (pos (b / 2 ^ 52) -ℤ pos 1023) ∙ by-parts
 
   pub ln-kept : (r : Float) → le (ofBits binary64 0x3ff8_0000_0000_0000) m' ≡ false → r ≡ lnOf a (W a) m' (stored (b / 2 ^ 52) field-lt) → r ≡ ln1p a

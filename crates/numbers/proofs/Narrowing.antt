@@ -32,7 +32,9 @@ narrow-value (fin t m e) s a c C h =
     ap (λ (z : Bool). round binary32 z (m * up e) (down e)) (h .0) ∙ round-same binary32 s (m * up e) (down e) a c (down-pos e) C (h .1)
 
 narrow-normal : (s : Bool) (j t : ℕ) → suc j < 2047 → narrow (ofFields binary64 s (suc j) t) ≡ round binary32 s ((2 ^ 52 + t) * 2 ^ j) (2 ^ 1074)
-narrow-normal s j t h = ap narrow (normal-field s j t h) ∙ narrow-value (odd 53 s (2 ^ 52 + t) j 1074) s ((2 ^ 52 + t) * 2 ^ j) (2 ^ 1074) (pow-pos 1074) (odd-sign 53 s (2 ^ 52 + t) j 1074)
+narrow-normal s j t h =
+    ap narrow (normal-field s j t h)
+    ∙ narrow-value (odd 53 s (2 ^ 52 + t) j 1074) s ((2 ^ 52 + t) * 2 ^ j) (2 ^ 1074) (pow-pos 1074) (odd-sign 53 s (2 ^ 52 + t) j 1074)
 
 -- ---- a result with 24 digits or more: of the digits d, 29 are dropped
 
@@ -84,12 +86,14 @@ module _ (d k j : ℕ) (lo : 2 ^ 52 ≤ d) (hi : d < 2 ^ 53) (at : j ≡ k + 896
 pub kept-normal : (t : ℕ) → t < 2 ^ 52 → closest (2 ^ 52 + t) (2 ^ 29) ≤ 2 ^ 24
 kept-normal t b = kept-hi (2 ^ 52 + t) 0 896 (lead-le t) (lead-lt t b) refl
 
-normal : (s : Bool) (k j t : ℕ) → t < 2 ^ 52 → j ≡ k + 896 → k ≤ 253 → ofBits binary32 (sign s + (k * 2 ^ 23 + closest (2 ^ 52 + t) (2 ^ 29))) ≡ narrow (ofFields binary64 s (suc j) t)
+normal : (s : Bool) (k j t : ℕ) → t < 2 ^ 52 → j ≡ k + 896 → k ≤ 253
+    → ofBits binary32 (sign s + (k * 2 ^ 23 + closest (2 ^ 52 + t) (2 ^ 29))) ≡ narrow (ofFields binary64 s (suc j) t)
 normal s k j t h at l =
     let d = 2 ^ 52 + t in
     let lo = lead-le t in
     let hi = lead-lt t h in
-    round-pattern s (d * 2 ^ j) (2 ^ 1074) k (closest d (2 ^ 29)) (dropped d k j lo hi at) (kept-same d k j lo hi at) (kept-hi d k j lo hi at) (inl (kept-lo d k j lo hi at)) l
+    round-pattern s (d * 2 ^ j) (2 ^ 1074) k (closest d (2 ^ 29)) (dropped d k j lo hi at) (kept-same d k j lo hi at) (kept-hi d k j lo hi at)
+    (inl (kept-lo d k j lo hi at)) l
     ∙ sym (narrow-normal s j t (go j k at l))
   where
     go : (j k : ℕ) → j ≡ k + 896 → k ≤ 253 → suc j < 2047
@@ -114,7 +118,9 @@ infinite s = infinite-pattern s
 -- ---- a subnormal result: sh of the digits are dropped
 
 kept-subnormal : (d sh : ℕ) → d < 2 ^ 53 → 30 ≤ sh → closest d (2 ^ sh) ≤ 2 ^ 24
-kept-subnormal d sh hi l = le-trans (nearest-le (d / 2 ^ sh) (compare (d % 2 ^ sh * 2) (2 ^ sh))) (e4 (d / 2 ^ sh) (div-lt-iff-lt-mul (pow-pos sh) .1 (lt-of-lt-of-le hi (le-trans (pow-mono (e5 sh l)) (le-of-eq (pow-add 2 23 sh))))))
+kept-subnormal d sh hi l =
+    le-trans (nearest-le (d / 2 ^ sh) (compare (d % 2 ^ sh * 2) (2 ^ sh)))
+    (e4 (d / 2 ^ sh) (div-lt-iff-lt-mul (pow-pos sh) .1 (lt-of-lt-of-le hi (le-trans (pow-mono (e5 sh l)) (le-of-eq (pow-add 2 23 sh))))))
   where
     e4 : (x : ℕ) → x < 8388608 → suc x ≤ 16777216
     e4 x h = omega arith
@@ -122,12 +128,15 @@ kept-subnormal d sh hi l = le-trans (nearest-le (d / 2 ^ sh) (compare (d % 2 ^ s
     e5 : (sh : ℕ) → 30 ≤ sh → 53 ≤ 23 + sh
     e5 sh h = omega arith
 
-subnormal : (s : Bool) (sh j t : ℕ) → t < 2 ^ 52 → j + sh ≡ 925 → 30 ≤ sh → ofBits binary32 (sign s + (0 * 2 ^ 23 + closest (2 ^ 52 + t) (2 ^ sh))) ≡ narrow (ofFields binary64 s (suc j) t)
+subnormal : (s : Bool) (sh j t : ℕ) → t < 2 ^ 52 → j + sh ≡ 925 → 30 ≤ sh
+    → ofBits binary32 (sign s + (0 * 2 ^ 23 + closest (2 ^ 52 + t) (2 ^ sh))) ≡ narrow (ofFields binary64 s (suc j) t)
 subnormal s sh j t h at l =
     let d = 2 ^ 52 + t in
     let hi = lead-lt t h in
     let as-one : d * 2 ^ j * 2 ^ 149 ≡ d * 2 ^ (j + 149) = mul-assoc d (2 ^ j) (2 ^ 149) ∙ ap (λ (x : ℕ). d * x) (sym (pow-add 2 j 149)) in
-    let w : d * 2 ^ j * 2 ^ 149 / 2 ^ 1074 < 2 ^ 23 = div-lt-iff-lt-mul (pow-pos 1074) .1 (lt-of-le-of-lt (le-of-eq as-one) (lt-of-lt-of-le (shl-lt 53 (j + 149) hi) (le-trans (pow-mono (e1 j sh at l)) (le-of-eq (pow-add 2 23 1074))))) in
+    let w : d * 2 ^ j * 2 ^ 149 / 2 ^ 1074 < 2 ^ 23 =
+    div-lt-iff-lt-mul (pow-pos 1074) .1
+    (lt-of-le-of-lt (le-of-eq as-one) (lt-of-lt-of-le (shl-lt 53 (j + 149) hi) (le-trans (pow-mono (e1 j sh at l)) (le-of-eq (pow-add 2 23 1074))))) in
     round-pattern s (d * 2 ^ j) (2 ^ 1074) 0 (closest d (2 ^ sh)) (e2 (size (d * 2 ^ j * 2 ^ 149 / 2 ^ 1074)) (size-le (d * 2 ^ j * 2 ^ 149 / 2 ^ 1074) 23 w))
     (closest-same (d * 2 ^ j * 2 ^ 149) (2 ^ 1074 * 2 ^ 0) d (2 ^ sh) (mul-pos (pow-pos 1074) (pow-pos 0)) (pow-pos sh)
     (ap (λ (x : ℕ). x * 2 ^ sh) as-one ∙ mul-assoc d (2 ^ (j + 149)) (2 ^ sh) ∙ ap (λ (x : ℕ). d * x) (two-pow (j + 149) sh 1074 (e3 j sh at) ∙ sym (mul-one (2 ^ 1074)))))
@@ -160,7 +169,9 @@ zero-pattern : (s : Bool) (a : ℕ) → a < 2 ^ 924 → ofBits binary32 (sign s 
 zero-pattern s a h =
     let l : a * 2 ^ 149 * 2 < 2 ^ 1074 = lt-of-le-of-lt (le-of-eq (mul-assoc a (2 ^ 149) 2)) (shl-lt 924 150 h) in
     let w : a * 2 ^ 149 / 2 ^ 1074 ≡ 0 = div-eq-of-lt (less (a * 2 ^ 149) (2 ^ 1074) l) in
-    round-pattern s a (2 ^ 1074) 0 0 (go (size (a * 2 ^ 149 / 2 ^ 1074)) (size-le (a * 2 ^ 149 / 2 ^ 1074) 0 (lt-of-le-of-lt (le-of-eq w) (zero-lt-suc 0)))) (nothing-kept (a * 2 ^ 149) (2 ^ 1074) l) (lit≤ tt) (inr refl) (lit≤ tt)
+    round-pattern s a (2 ^ 1074) 0 0
+    (go (size (a * 2 ^ 149 / 2 ^ 1074)) (size-le (a * 2 ^ 149 / 2 ^ 1074) 0 (lt-of-le-of-lt (le-of-eq w) (zero-lt-suc 0))))
+    (nothing-kept (a * 2 ^ 149) (2 ^ 1074) l) (lit≤ tt) (inr refl) (lit≤ tt)
   where
     less : (a b : ℕ) → a * 2 < b → a < b
     less a b h = omega arith

@@ -75,7 +75,9 @@ round-value (fin t m e) s a c C h =
     ∙ ap (λ (z : ℕ). cond s 0 (min z (2 ^ 64 - 1))) (nearest-is (m * up e) (down e) (down-pos e) ∙ half-same (m * up e) (down e) a c (down-pos e) C (h .1))
 
 round-normal : (s : Bool) (j t : ℕ) → suc j < 2047 → roundU64 (ofFields binary64 s (suc j) t) ≡ cond s 0 (min (halfUp ((2 ^ 52 + t) * 2 ^ j) (2 ^ 1074)) (2 ^ 64 - 1))
-round-normal s j t h = ap roundU64 (normal-field s j t h) ∙ round-value (odd 53 s (2 ^ 52 + t) j 1074) s ((2 ^ 52 + t) * 2 ^ j) (2 ^ 1074) (pow-pos 1074) (odd-sign 53 s (2 ^ 52 + t) j 1074)
+round-normal s j t h =
+    ap roundU64 (normal-field s j t h)
+    ∙ round-value (odd 53 s (2 ^ 52 + t) j 1074) s ((2 ^ 52 + t) * 2 ^ j) (2 ^ 1074) (pow-pos 1074) (odd-sign 53 s (2 ^ 52 + t) j 1074)
 
 round-subnormal : (s : Bool) (t : ℕ) → roundU64 (ofFields binary64 s 0 t) ≡ cond s 0 (min (halfUp (t * 2 ^ 0) (2 ^ 1074)) (2 ^ 64 - 1))
 unfolding ofFields
@@ -113,7 +115,8 @@ rounded-held e t a z h = go (le-or-lt 2047 e)
         round-infinite false ∙ ap (λ (x : ℕ). roundU64 (ofFields binary64 false 2047 x)) (sym (z p)) ∙ ap (λ (x : ℕ). roundU64 (ofFields binary64 false x t)) (sym p)
     go (inr g) =
         let p : suc (e - 1) ≡ e = omega arith in
-        sym (round-normal false (e - 1) t (omega arith) ∙ min-right (halfUp ((2 ^ 52 + t) * 2 ^ (e - 1)) (2 ^ 1074)) (2 ^ 64 - 1) (less (halfUp ((2 ^ 52 + t) * 2 ^ (e - 1)) (2 ^ 1074)) (exceeds t (e - 1) (omega arith))))
+        sym
+        (round-normal false (e - 1) t (omega arith) ∙ min-right (halfUp ((2 ^ 52 + t) * 2 ^ (e - 1)) (2 ^ 1074)) (2 ^ 64 - 1) (less (halfUp ((2 ^ 52 + t) * 2 ^ (e - 1)) (2 ^ 1074)) (exceeds t (e - 1) (omega arith))))
         ∙ ap (λ (x : ℕ). roundU64 (ofFields binary64 false x t)) p
 
 pub rounded-whole : (e t : ℕ) → t < 2 ^ 52 → 1076 ≤ e → e < 1087 → (2 ^ 52 + t) * 2 ^ (e - 1075) % 2 ^ 64 ≡ roundU64 (ofFields binary64 false e t)
@@ -124,7 +127,8 @@ rounded-whole e t b l h =
     let small : d * 2 ^ k < 2 ^ 64 = lt-of-lt-of-le (shl-lt 53 k (lead-lt t b)) (pow-mono (room e h)) in
     shl-exact 53 k 64 (lead-lt t b) (room e h)
     ∙ sym (round-normal false (e - 1) t (omega arith)
-    ∙ ap (λ (x : ℕ). min x (2 ^ 64 - 1)) (half-same (d * 2 ^ (e - 1)) (2 ^ 1074) (d * 2 ^ k) 1 (pow-pos 1074) (zero-lt-suc 0) (mul-one (d * 2 ^ (e - 1)) ∙ ap (λ (x : ℕ). d * x) (sym (two-pow k 1074 (e - 1) (omega arith))) ∙ sym (mul-assoc d (2 ^ k) (2 ^ 1074))))
+    ∙ ap (λ (x : ℕ). min x (2 ^ 64 - 1))
+    (half-same (d * 2 ^ (e - 1)) (2 ^ 1074) (d * 2 ^ k) 1 (pow-pos 1074) (zero-lt-suc 0) (mul-one (d * 2 ^ (e - 1)) ∙ ap (λ (x : ℕ). d * x) (sym (two-pow k 1074 (e - 1) (omega arith))) ∙ sym (mul-assoc d (2 ^ k) (2 ^ 1074))))
     ∙ itself (d * 2 ^ k) small)
     ∙ ap (λ (x : ℕ). roundU64 (ofFields binary64 false x t)) p
   where
@@ -150,7 +154,8 @@ rounded-fraction e t b l h =
     let U : u < 2 ^ 54 = pow-lt U' in
     ap (halfUp d) (divisor e l h .0)
     ∙ sym (round-normal false (e - 1) t (omega arith)
-    ∙ ap (λ (x : ℕ). min x (2 ^ 64 - 1)) (half-same (d * 2 ^ (e - 1)) (2 ^ 1074) d u (pow-pos 1074) (pow-pos (1075 - e)) (mul-assoc d (2 ^ (e - 1)) u ∙ ap (λ (x : ℕ). d * x) (two-pow (e - 1) (1075 - e) 1074 (omega arith))))
+    ∙ ap (λ (x : ℕ). min x (2 ^ 64 - 1))
+    (half-same (d * 2 ^ (e - 1)) (2 ^ 1074) d u (pow-pos 1074) (pow-pos (1075 - e)) (mul-assoc d (2 ^ (e - 1)) u ∙ ap (λ (x : ℕ). d * x) (two-pow (e - 1) (1075 - e) 1074 (omega arith))))
     ∙ min-left (halfUp d u) (2 ^ 64 - 1) (le-trans (div-le-self (d * 2 + u) (u * 2)) (bound t u b U)))
     ∙ ap (λ (x : ℕ). roundU64 (ofFields binary64 false x t)) p
   where
@@ -165,7 +170,8 @@ below-half a h = sym (ap (λ (x : ℕ). min x (2 ^ 64 - 1)) (div-eq-of-lt (go a 
 
 pub rounded-zero : (e t : ℕ) → t < 2 ^ 52 → e < 1022 → 0 ≡ roundU64 (ofFields binary64 false e t)
 rounded-zero zero t b h = below-half (t * 2 ^ 0) (lt-of-lt-of-le (shl-lt 52 0 b) (pow-mono (lit≤ {m = 52 + 0} {n = 1073} tt))) ∙ sym (round-subnormal false t)
-rounded-zero (suc j) t b h = below-half ((2 ^ 52 + t) * 2 ^ j) (lt-of-lt-of-le (shl-lt 53 j (lead-lt t b)) (pow-mono (room j h))) ∙ sym (round-normal false j t (omega arith))
+rounded-zero (suc j) t b h =
+    below-half ((2 ^ 52 + t) * 2 ^ j) (lt-of-lt-of-le (shl-lt 53 j (lead-lt t b)) (pow-mono (room j h))) ∙ sym (round-normal false j t (omega arith))
   where
     room : (j : ℕ) → suc j < 1022 → 53 + j ≤ 1073
     room j h = omega arith

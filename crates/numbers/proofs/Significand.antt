@@ -63,7 +63,9 @@ normalised m e =
     let under : suc m < 2 ^ suc k = subst (λ (x : ℕ). suc m < 2 ^ x) (back (size (suc m)) Z) (size-lt (suc m)) in
     record {
       same = ap (λ (x : ℤ). fin false (suc m) (x +ℤ (e +ℤ pos k))) at ∙ ap (λ (x : ℤ). fin false (suc m) x) (+ℤ-comm d (e +ℤ pos k) ∙ +ℤ-negℤ-cancel e (pos k));
-      least = subst (λ (x : ℤ). T (le one (fin false (suc m) x))) (sym at) (le-of-values one (fin false (suc m) d) 1 1 (suc m) (2 ^ k) (zero-lt-suc 0) (pow-pos k) (refl, refl) (refl, value k) (tidy (2 ^ k) (suc m) reach));
+      least =
+          subst (λ (x : ℤ). T (le one (fin false (suc m) x))) (sym at)
+          (le-of-values one (fin false (suc m) d) 1 1 (suc m) (2 ^ k) (zero-lt-suc 0) (pow-pos k) (refl, refl) (refl, value k) (tidy (2 ^ k) (suc m) reach));
       below = subst (λ (x : ℤ). T (lt (fin false (suc m) x) two)) (sym at) (lt→ltb (suc m * up d * 1) (2 * down d) (small k under));
     }
   where
@@ -120,7 +122,8 @@ unfolding trailingZeros
 trailing-shift zero m i o h = absurd (omega arith)
 trailing-shift (suc d) m zero o h = ap (λ (x : ℕ). under (x % 2) (trailingZeros d (x / 2))) (mul-one m) ∙ ap (λ (r : ℕ). under r (trailingZeros d (m / 2))) o
 trailing-shift (suc d) m (suc i) o h =
-    ap (λ (r : ℕ). under r (trailingZeros d (m * 2 ^ suc i / 2))) (shifted-even m i) ∙ ap (λ (x : ℕ). suc (trailingZeros d x)) (shifted-half m i) ∙ ap suc (trailing-shift d m i o (le-of-suc-le-suc h))
+    ap (λ (r : ℕ). under r (trailingZeros d (m * 2 ^ suc i / 2))) (shifted-even m i) ∙ ap (λ (x : ℕ). suc (trailingZeros d x)) (shifted-half m i)
+    ∙ ap suc (trailing-shift d m i o (le-of-suc-le-suc h))
 
 odd-positive : (d : ℕ) (s : Bool) (q k l : ℕ) → 0 < q → odd d s q k l ≡ fin s (q / 2 ^ trailingZeros d q) (minus (k + trailingZeros d q) l)
 unfolding odd
@@ -145,7 +148,8 @@ exponent-of : (e : ℤ) (j z k : ℕ) → Place 1074 e j → 0 < z → k + 53 �
 exponent-of (pos a) j z k p h g = sub-same (k + 1) 1023 (a + (z - 1)) 0 (omega arith) ∙ sub-zero (a + (z - 1))
 exponent-of (negsuc a) j z k p h g = sub-same (k + 1) 1023 (z - 1) (suc a) (omega arith)
 
-top-digit : (k q b : ℕ) → 4503599627370496 ≤ q → q < 9007199254740992 → b ≡ k * 4503599627370496 + q → (b / 4503599627370496 ≡ k + 1) × (4503599627370496 + b % 4503599627370496 ≡ q)
+top-digit : (k q b : ℕ) → 4503599627370496 ≤ q → q < 9007199254740992 → b ≡ k * 4503599627370496 + q
+    → (b / 4503599627370496 ≡ k + 1) × (4503599627370496 + b % 4503599627370496 ≡ q)
 top-digit k q b h l e = omega arith
 
 module _ (m : ℕ) (e : ℤ) (F : T (fits binary64 (fin false (suc m) e))) (N : 2 ^ 52 * down e ≤ suc m * up e * 2 ^ 1074) where
@@ -164,7 +168,9 @@ module _ (m : ℕ) (e : ℤ) (F : T (fits binary64 (fin false (suc m) e))) (N : 
       let Z : 0 < z = size-pos (suc m) M in
       let Z53 : z ≤ 53 = size-le (suc m) 53 (P .1) in
       let big : 2 ^ 52 ≤ n = le-of-mul-le-mul-right (le-trans N (le-of-eq (pl .2 (suc m)))) (down-pos e) in
-      let full : 52 < z + j = subst (λ (x : ℕ). 52 < x) (size-shift (suc m) j M) (lt-of-not-le (λ (g : size n ≤ 52). lt-irrefl (2 ^ 52) (lt-of-le-of-lt big (lt-of-lt-of-le (size-lt n) (pow-mono g))))) in
+      let full : 52 < z + j =
+      subst (λ (x : ℕ). 52 < x) (size-shift (suc m) j M)
+      (lt-of-not-le (λ (g : size n ≤ 52). lt-irrefl (2 ^ 52) (lt-of-le-of-lt big (lt-of-lt-of-le (size-lt n) (pow-mono g))))) in
       let kk : k + 53 ≡ z + j = t1 z j full in
       let cut : q * 2 ^ k ≡ n = mul-assoc (suc m) (2 ^ i) (2 ^ k) ∙ ap (λ (x : ℕ). suc m * x) (two-pow i k j (t2 z j Z53 full)) in
       let sq : size q ≡ 53 = size-shift (suc m) i M ∙ t3 z Z53 in
@@ -212,7 +218,9 @@ unfolding round
 smallest-is = refl
 
 at-least : (b c : ℕ) → 0 < c → c ≤ b * 2 ^ 53 → T (le smallest (round binary64 false b c))
-at-least b c C h = subst (λ (x : Float). T (le x (round binary64 false b c))) smallest-is (round-mono binary64 1 (2 ^ 53) b c (pow-pos 53) C (le-trans (le-of-eq (one-mul c)) h))
+at-least b c C h =
+    subst (λ (x : Float). T (le x (round binary64 false b c))) smallest-is
+    (round-mono binary64 1 (2 ^ 53) b c (pow-pos 53) C (le-trans (le-of-eq (one-mul c)) h))
 
 negative-not-above : (x : Float) → Signed true x → lt Constants.zero x ≡ true → ⊥
 unfolding lt
@@ -265,9 +273,12 @@ sum-at-least (fin true n d) F h k = go (ltb (1 * down d) (n * up d * 1)) h
     C : 0 < 1 * down d
     C = mul-pos (zero-lt-suc 0) (down-pos d)
 
-    go : (t : Bool) → lt Constants.zero (cond t (round binary64 true (n * up d * 1 - 1 * down d) (1 * down d)) (round binary64 false (1 * down d - n * up d * 1) (1 * down d))) ≡ true
+    go : (t : Bool)
+        → lt Constants.zero (cond t (round binary64 true (n * up d * 1 - 1 * down d) (1 * down d)) (round binary64 false (1 * down d - n * up d * 1) (1 * down d))) ≡ true
         → T (le smallest (cond t (round binary64 true (n * up d * 1 - 1 * down d) (1 * down d)) (round binary64 false (1 * down d - n * up d * 1) (1 * down d))))
-    go true h = absurd (negative-not-above (round binary64 true (n * up d * 1 - 1 * down d) (1 * down d)) (round-signed binary64 true (n * up d * 1 - 1 * down d) (1 * down d)) h)
+    go true h =
+        absurd
+        (negative-not-above (round binary64 true (n * up d * 1 - 1 * down d) (1 * down d)) (round-signed binary64 true (n * up d * 1 - 1 * down d) (1 * down d)) h)
     go false h = elim (eq-zero-or-pos (1 * down d - n * up d * 1)) [
       | inl z ↦ absurd (zero-not-above (round binary64 false 0 (1 * down d)) (1 * down d) C (round-exact binary64 false 0 (1 * down d) 0 0 C (pow-pos 53) (pow-pos 2098) (zero-mul (2 ^ 1074) ∙ sym (zero-mul (1 * down d)))) (subst (λ (x : ℕ). lt Constants.zero (round binary64 false x (1 * down d)) ≡ true) z h))
       | inr p ↦ at-least (1 * down d - n * up d * 1) (1 * down d) C (gap n d F p)
@@ -275,7 +286,8 @@ sum-at-least (fin true n d) F h k = go (ltb (1 * down d) (n * up d * 1)) h
 
 -- ---- the theorem
 
-parts-at : (w : Float) → T (fits binary64 w) → lt Constants.zero w ≡ true → lt w (inf false) ≡ true → T (le smallest w) → (fieldSignificand w ≡ significand w) × (fieldExponent w ≡ exponent w)
+parts-at : (w : Float) → T (fits binary64 w) → lt Constants.zero w ≡ true → lt w (inf false) ≡ true → T (le smallest w)
+    → (fieldSignificand w ≡ significand w) × (fieldExponent w ≡ exponent w)
 unfolding lt
 parts-at nan F h k l = absurd (false≢true h)
 parts-at (inf true) F h k l = absurd (false≢true h)
@@ -289,7 +301,9 @@ parts-at (fin false (suc m) e) F h k l =
     parts-of-normal m e F (unfold le eq in enough (suc m * up e) (down e) (le-says (1 * down e) (suc m * up e * 2 ^ 53) l))
   where
     enough : (a d : ℕ) → 1 * d ≤ a * 2 ^ 53 → 2 ^ 52 * d ≤ a * 2 ^ 1074
-    enough a d h = le-trans (mul-le-mul-left (2 ^ 52) (le-trans (le-of-eq (sym (one-mul d))) h)) (le-trans (le-of-eq (mul-left-comm (2 ^ 52) a (2 ^ 53))) (mul-le-mul-left a (pow-mono (lit≤ {m = 105} {n = 1074} tt))))
+    enough a d h =
+        le-trans (mul-le-mul-left (2 ^ 52) (le-trans (le-of-eq (sym (one-mul d))) h))
+        (le-trans (le-of-eq (mul-left-comm (2 ^ 52) a (2 ^ 53))) (mul-le-mul-left a (pow-mono (lit≤ {m = 105} {n = 1074} tt))))
 
 pub parts-by-fields : (a : Float) → T (fits binary64 a) → lt Constants.zero (add binary64 one a) ≡ true → lt (add binary64 one a) (inf false) ≡ true
     → (fieldSignificand (add binary64 one a) ≡ significand (add binary64 one a)) × (fieldExponent (add binary64 one a) ≡ exponent (add binary64 one a))

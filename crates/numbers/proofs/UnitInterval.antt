@@ -21,7 +21,8 @@ use Rattle.numbers.proofs.Laws.Patterns.{round-own}
 add-zero-positive : (m : ℕ) (e : ℤ) → T (fits binary32 (fin false m e)) → add binary32 (fin false m e) Constants.zero ≡ fin false m e
 unfolding add sum
 add-zero-positive m e F =
-    round-same binary32 false (m * up e * 1 + 0 * 1 * down e) (down e * 1) (m * up e) (down e) (mul-pos (down-pos e) (zero-lt-suc 0)) (down-pos e) (tidy (m * up e) (down e))
+    round-same binary32 false (m * up e * 1 + 0 * 1 * down e) (down e * 1) (m * up e) (down e) (mul-pos (down-pos e) (zero-lt-suc 0)) (down-pos e)
+    (tidy (m * up e) (down e))
     ∙ round-own binary32 false m e F
   where
     tidy : (a c : ℕ) → (a * 1 + 0 * 1 * c) * c ≡ a * (c * 1)
@@ -42,11 +43,15 @@ unfolding add sum
 add-zero-zero true m e h = go (m * up e * 1) (0 * 1 * down e) (ap (λ (x : ℕ). x * 1) h) (zero-mul (down e))
   where
     go : (a b : ℕ) → a ≡ 0 → b ≡ 0 → cond (ltb a b) (round binary32 false (b - a) (down e * 1)) (round binary32 (true && ltb b a) (a - b) (down e * 1)) ≡ Constants.zero
-    go a b p q = subst (λ (x : ℕ). cond (ltb x b) (round binary32 false (b - x) (down e * 1)) (round binary32 (true && ltb b x) (x - b) (down e * 1)) ≡ Constants.zero) (sym p)
+    go a b p q =
+        subst
+        (λ (x : ℕ). cond (ltb x b) (round binary32 false (b - x) (down e * 1)) (round binary32 (true && ltb b x) (x - b) (down e * 1)) ≡ Constants.zero)
+        (sym p)
         (subst (λ (x : ℕ). cond (ltb 0 x) (round binary32 false (x - 0) (down e * 1)) (round binary32 (true && ltb x 0) (0 - x) (down e * 1)) ≡ Constants.zero) (sym q)
         (round-zero (down e * 1) (mul-pos (down-pos e) (zero-lt-suc 0))))
 add-zero-zero false m e h =
-    ap (λ (x : ℕ). round binary32 false x (down e * 1)) (none (m * up e) (0 * 1 * down e) h (zero-mul (down e))) ∙ round-zero (down e * 1) (mul-pos (down-pos e) (zero-lt-suc 0))
+    ap (λ (x : ℕ). round binary32 false x (down e * 1)) (none (m * up e) (0 * 1 * down e) h (zero-mul (down e)))
+    ∙ round-zero (down e * 1) (mul-pos (down-pos e) (zero-lt-suc 0))
   where
     none : (a b : ℕ) → a ≡ 0 → b ≡ 0 → a * 1 + b ≡ 0
     none a b p q = omega arith
@@ -91,7 +96,8 @@ unit-above (fin false m e) F h k =
     go : (t : Bool) → (T (not t) → m * up e * 1 ≤ 1 * down e) → 1 * down e ≤ m * up e * 1 → add binary32 (cond t one (fin false m e)) Constants.zero ≡ one
     go true p q = unit-of-one
     go false p q =
-        ap (λ (x : Float). add binary32 x Constants.zero) (whole-unique binary32 (fin false m e) one false 1 F one-fits (refl, both (m * up e * 1) (1 * down e) (p tt) q) (refl, refl))
+        ap (λ (x : Float). add binary32 x Constants.zero)
+        (whole-unique binary32 (fin false m e) one false 1 F one-fits (refl, both (m * up e * 1) (1 * down e) (p tt) q) (refl, refl))
         ∙ unit-of-one
 
 pub unit-below : (x : Float) → lt Constants.zero x ≡ false → unit x ≡ Constants.zero

@@ -6,7 +6,6 @@ use lib.Ieee.{Float, nan, inf, fin, binary32, up, down, round}
 
 -- Narrowing binary64 to binary32: to the nearest, ties to even, subnormals included.
 unfoldable pub narrow : Float → Float
-unfolding round
 narrow nan = nan
 narrow (inf s) = inf s
 narrow (fin s m e) = round binary32 s (m * up e) (down e)

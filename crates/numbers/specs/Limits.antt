@@ -9,7 +9,6 @@ clamp x low high = cond (lt x low) low (cond (lt high x) high x)
 
 -- Document 01: NaN gives 0; else limited to 0..1, never negative zero. As mod.rs has it, adding +0 turns -0 into +0.
 unfoldable pub unit : Float → Float
-unfolding clamp
 unit x = cond (isNan x) zero (add binary32 (clamp x zero one) zero)
 
 -- Document 01: max with one NaN gives the other operand. Of two equal operands, such as -0 and +0, it is the first.

@@ -64,12 +64,12 @@ pub fn narrow(x: f64) -> f32
     if x != x {
         return 0.0 / 0.0;
     }
-    let b = f64::to_bits(x);
-    let p = narrow_fields(
-        b % 0x8000_0000_0000_0000 / 0x10_0000_0000_0000,
-        b % 0x10_0000_0000_0000,
+    let pattern = f64::to_bits(x);
+    let magnitude = narrow_fields(
+        pattern % 0x8000_0000_0000_0000 / 0x10_0000_0000_0000,
+        pattern % 0x10_0000_0000_0000,
     );
-    f32::from_bits((b / 0x8000_0000_0000_0000 * 0x8000_0000 + p) as u32)
+    f32::from_bits((pattern / 0x8000_0000_0000_0000 * 0x8000_0000 + magnitude) as u32)
 }
 
 // The whole number nearest to the binary64 with no sign, the exponent field e and the digits t, a
@@ -98,12 +98,12 @@ pub fn round_to_u64(x: f64) -> u64
     if x != x {
         return 0;
     }
-    let b = f64::to_bits(x);
-    if b >= 0x8000_0000_0000_0000 {
+    let bits = f64::to_bits(x);
+    if bits >= 0x8000_0000_0000_0000 {
         return 0;
     }
     round_fields(
-        b % 0x8000_0000_0000_0000 / 0x10_0000_0000_0000,
-        b % 0x10_0000_0000_0000,
+        bits % 0x8000_0000_0000_0000 / 0x10_0000_0000_0000,
+        bits % 0x10_0000_0000_0000,
     )
 }

@@ -18,8 +18,11 @@ use Rattle.timing.specs.Samples.{seconds, product, samples, over, sixty,
 
 seconds-below : (value : Float) (unit : TimeUnit) (tempo : Float) → over value ≡ false → Below (2 ^ 20 * 60) (seconds value unit tempo)
 unfolding seconds
-seconds-below value Tempo tempo h = div-below (mul binary64 value sixty) (max tempo one) (2 ^ 20 * 60) (lit≤ tt) (mul-below value 14 (pos 2) (2 ^ 20) 60 (lit≤ tt) (not-over 20 value h) (lit≤ tt)) (max-one tempo)
-seconds-below value Milliseconds tempo h = div-below value thousand (2 ^ 20 * 60) (lit≤ tt) (below-more (2 ^ 20) (2 ^ 20 * 60) value (lit≤ tt) (not-over 20 value h)) (refl, lit≤ tt)
+seconds-below value Tempo tempo h =
+    div-below (mul binary64 value sixty) (max tempo one) (2 ^ 20 * 60) (lit≤ tt)
+    (mul-below value 14 (pos 2) (2 ^ 20) 60 (lit≤ tt) (not-over 20 value h) (lit≤ tt)) (max-one tempo)
+seconds-below value Milliseconds tempo h =
+    div-below value thousand (2 ^ 20 * 60) (lit≤ tt) (below-more (2 ^ 20) (2 ^ 20 * 60) value (lit≤ tt) (not-over 20 value h)) (refl, lit≤ tt)
 
 scale-upto : (x : Float) → Upto 10 (clamp x minScale maxScale)
 unfolding clamp lt ofBits
@@ -31,7 +34,8 @@ scale-upto (fin true m e) = go (ltb 0 (m * up e * 36028797018963968 + 3602879701
     some : (a b : ℕ) → 0 < b → a * 36028797018963968 + 3602879701896397 * b ≤ 0 → ⊥
     some a b h k = omega arith
 
-    go : (t : Bool) → (T (not t) → m * up e * 36028797018963968 + 3602879701896397 * down e ≤ 0) → Upto 10 (cond t (fin false 3602879701896397 (negsuc 54)) (fin true m e))
+    go : (t : Bool) → (T (not t) → m * up e * 36028797018963968 + 3602879701896397 * down e ≤ 0)
+        → Upto 10 (cond t (fin false 3602879701896397 (negsuc 54)) (fin true m e))
     go true p = lit≤ tt
     go false p = absurd (some (m * up e) (down e) (down-pos e) (p tt))
 scale-upto (fin false m e) = go (ltb (m * up e * 36028797018963968) (3602879701896397 * down e)) (ltb (10 * down e) (m * up e * 1)) (nltb→le (10 * down e) (m * up e * 1))

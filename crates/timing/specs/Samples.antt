@@ -2,7 +2,8 @@
 use Prim.Native.Nat.{ℕ}
 use mathlib.Core.Bool.{Bool, false}
 use lib.IntN.{pos}
-use lib.Ieee.{Float, fin, binary64, mul, div, lt, ofBits}
+use lib.Ieee.{Float, fin, binary64, lt, ofBits}
+use Rattle.numbers.specs.Rounded.{_⊗_, _⊘_}
 use Rattle.numbers.specs.Constants.{zero, one}
 use Rattle.numbers.specs.Limits.{max, clamp}
 use Rattle.numbers.specs.Conversions.{roundU64}
@@ -25,13 +26,12 @@ maxScale = fin false 5 (pos 1)
 
 -- Milliseconds / 1000, or beats × 60 / max(tempo, 1).
 unfoldable pub seconds : Float → TimeUnit → Float → Float
-seconds value Milliseconds tempo = div binary64 value thousand
-seconds value Tempo tempo = div binary64 (mul binary64 value sixty) (max tempo one)
+seconds value Milliseconds tempo = value ⊘ thousand
+seconds value Tempo tempo = (value ⊗ sixty) ⊘ max tempo one
 
 -- Seconds, max with 0; times the scale limited to 0.1..10, times max(rate, 0).
 unfoldable pub product : Timing → Float → TimeUnit → Float
-product t value unit =
-    mul binary64 (mul binary64 (max (seconds value unit (t .tempo)) zero) (clamp (t .scale) minScale maxScale)) (max (t .«sample_rate») zero)
+product t value unit = max (seconds value unit (t .tempo)) zero ⊗ clamp (t .scale) minScale maxScale ⊗ max (t .«sample_rate») zero
 
 -- Rounded to whole samples; a NaN product gives 0.
 unfoldable pub samples : Timing → Float → TimeUnit → ℕ

@@ -32,7 +32,9 @@ Lead q k = (2 ^ 23 ≤ q) ⊎ (k ≡ 0)
 
 with-lead : (q k : ℕ) → 2 ^ 23 ≤ q → q < 2 ^ 24 → magnitude (q * 2 ^ k) ≡ k * 2 ^ 23 + q
 with-lead q k lo hi =
-    let z : size (q * 2 ^ k) ≡ 23 + k + 1 = size-is (q * 2 ^ k) (23 + k) (le-trans (le-of-eq (pow-add 2 23 k)) (mul-le-mul-right (2 ^ k) lo)) (lt-of-lt-of-le (shl-lt 24 k hi) (pow-mono (up-one k))) in
+    let z : size (q * 2 ^ k) ≡ 23 + k + 1 =
+    size-is (q * 2 ^ k) (23 + k) (le-trans (le-of-eq (pow-add 2 23 k)) (mul-le-mul-right (2 ^ k) lo))
+    (lt-of-lt-of-le (shl-lt 24 k hi) (pow-mono (up-one k))) in
     let y : size (q * 2 ^ k) - 24 ≡ k = ap (λ (x : ℕ). x - 24) z ∙ cut k in
     ap (λ (x : ℕ). x * 2 ^ 23 + q * 2 ^ k / 2 ^ x) y ∙ ap (λ (x : ℕ). k * 2 ^ 23 + x) (mul-div-cancel q (pow-pos k))
   where
@@ -86,9 +88,11 @@ magnitude-is q k le lead = elim (eq-or-lt-of-le le) [
 
 -- ---- the pattern read as a value
 
-finite-pattern : (s : Bool) (q k : ℕ) → q ≤ 2 ^ 24 → Lead q k → q * 2 ^ k < 2 ^ 277 → T (fits binary32 (units binary32 s q k)) → ofBits binary32 (sign s + (k * 2 ^ 23 + q)) ≡ units binary32 s q k
+finite-pattern : (s : Bool) (q k : ℕ) → q ≤ 2 ^ 24 → Lead q k → q * 2 ^ k < 2 ^ 277 → T (fits binary32 (units binary32 s q k))
+    → ofBits binary32 (sign s + (k * 2 ^ 23 + q)) ≡ units binary32 s q k
 finite-pattern s q k a b c f =
-    ap (ofBits binary32) (ap (λ (x : ℕ). sign s + x) (sym (magnitude-is q k a b)) ∙ sym (add-assoc (sign s) _ _) ∙ sym (toBits-is binary32 (units binary32 s q k) s (q * 2 ^ k) (units-val binary32 s q k c)))
+    ap (ofBits binary32)
+    (ap (λ (x : ℕ). sign s + x) (sym (magnitude-is q k a b)) ∙ sym (add-assoc (sign s) _ _) ∙ sym (toBits-is binary32 (units binary32 s q k) s (q * 2 ^ k) (units-val binary32 s q k c)))
     ∙ ofBits-toBits binary32 (units binary32 s q k) f
 
 pub infinite-pattern : (s : Bool) → ofBits binary32 (sign s + 2139095040) ≡ inf s
@@ -98,9 +102,12 @@ infinite-pattern false = refl
 
 pub units-infinite : (s : Bool) (q k : ℕ) → 2 ^ 277 ≤ q * 2 ^ k → units binary32 s q k ≡ inf s
 unfolding units
-units-infinite s q k h = cond-no (ltb (q * 2 ^ k) (2 ^ 277)) (odd 25 s q k 149) (inf s) (not-T (ltb (q * 2 ^ k) (2 ^ 277)) (λ t. not-le-of-lt (ltb→lt (q * 2 ^ k) (2 ^ 277) t) h))
+units-infinite s q k h =
+    cond-no (ltb (q * 2 ^ k) (2 ^ 277)) (odd 25 s q k 149) (inf s)
+    (not-T (ltb (q * 2 ^ k) (2 ^ 277)) (λ t. not-le-of-lt (ltb→lt (q * 2 ^ k) (2 ^ 277) t) h))
 
-units-pattern : (s : Bool) (q k : ℕ) → q ≤ 2 ^ 24 → Lead q k → k ≤ 253 → T (fits binary32 (units binary32 s q k)) → ofBits binary32 (sign s + (k * 2 ^ 23 + q)) ≡ units binary32 s q k
+units-pattern : (s : Bool) (q k : ℕ) → q ≤ 2 ^ 24 → Lead q k → k ≤ 253 → T (fits binary32 (units binary32 s q k))
+    → ofBits binary32 (sign s + (k * 2 ^ 23 + q)) ≡ units binary32 s q k
 units-pattern s q k a b c f = go (eq-or-lt-of-le c) (eq-or-lt-of-le a)
   where
     less : (k : ℕ) → k ≤ 253 → 24 + k ≤ 277
@@ -126,7 +133,8 @@ round-units s a c k q e h =
     ∙ ap (λ (x : ℕ). units binary32 s (closest (a * 2 ^ 149) (c * 2 ^ x)) x) e
     ∙ ap (λ (x : ℕ). units binary32 s x k) h
 
-pub round-pattern : (s : Bool) (a c k q : ℕ) → size (a * 2 ^ 149 / c) - 24 ≡ k → closest (a * 2 ^ 149) (c * 2 ^ k) ≡ q → q ≤ 2 ^ 24 → Lead q k → k ≤ 253 → ofBits binary32 (sign s + (k * 2 ^ 23 + q)) ≡ round binary32 s a c
+pub round-pattern : (s : Bool) (a c k q : ℕ) → size (a * 2 ^ 149 / c) - 24 ≡ k → closest (a * 2 ^ 149) (c * 2 ^ k) ≡ q → q ≤ 2 ^ 24 → Lead q k
+    → k ≤ 253 → ofBits binary32 (sign s + (k * 2 ^ 23 + q)) ≡ round binary32 s a c
 round-pattern s a c k q e h l m n =
     let is = round-units s a c k q e h in
     units-pattern s q k l m n (subst (λ (x : Float). T (fits binary32 x)) is (round-fits binary32 s a c)) ∙ sym is

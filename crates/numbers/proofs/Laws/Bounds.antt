@@ -92,7 +92,9 @@ no-size zero e h = refl
 no-size (suc m) e h = absurd (lt-irrefl 0 (subst (λ (x : ℕ). 0 < x) h (mul-pos (zero-lt-suc m) (up-pos e))))
 
 round-of-zero : (s : Bool) (a c B : ℕ) → 0 < c → a ≡ 0 → Upto B (round binary64 s a c)
-round-of-zero s a c B C z = subst (λ (x : ℕ). Upto B (round binary64 s x c)) (sym z) (go (round binary64 s 0 c) (round-exact binary64 s 0 c 0 0 C (pow-pos 53) (pow-pos 2098) (zero-mul (2 ^ 1074) ∙ sym (zero-mul c))))
+round-of-zero s a c B C z =
+    subst (λ (x : ℕ). Upto B (round binary64 s x c)) (sym z)
+    (go (round binary64 s 0 c) (round-exact binary64 s 0 c 0 0 C (pow-pos 53) (pow-pos 2098) (zero-mul (2 ^ 1074) ∙ sym (zero-mul c))))
   where
     none : (m : ℕ) (e : ℤ) → m * up e * c ≡ 0 * down e → m * up e ≡ 0
     none m e h = elim (eq-zero-or-pos (m * up e)) [ inl p ↦ p | inr p ↦ absurd (lt-irrefl 0 (subst (λ (x : ℕ). 0 < x) (h ∙ zero-mul (down e)) (mul-pos p C))) ]
@@ -114,8 +116,12 @@ unfolding mul
 mul-below nan n d A B K h k = tt
 mul-below (inf true) n d A B K h k = rw (eqb·suc-zero n) tt
 mul-below (inf false) n d A B K h k = absurd h
-mul-below (fin true m e) n d A B K h k = below-negative (round binary64 true (m * up e * (suc n * up d)) (down e * down d)) (A * B) (round-signed binary64 true (m * up e * (suc n * up d)) (down e * down d))
-mul-below (fin false m e) n d A B K h k = round-below false (m * up e * (suc n * up d)) (down e * down d) (A * B) (mul-pos (down-pos e) (down-pos d)) K (cross (m * up e) A (down e) (suc n * up d) B (down d) h k)
+mul-below (fin true m e) n d A B K h k =
+    below-negative (round binary64 true (m * up e * (suc n * up d)) (down e * down d)) (A * B)
+    (round-signed binary64 true (m * up e * (suc n * up d)) (down e * down d))
+mul-below (fin false m e) n d A B K h k =
+    round-below false (m * up e * (suc n * up d)) (down e * down d) (A * B) (mul-pos (down-pos e) (down-pos d)) K
+    (cross (m * up e) A (down e) (suc n * up d) B (down d) h k)
 
 pub mul-upto : (x y : Float) (A B : ℕ) → A * B ≤ 2 ^ 53 → Upto A x → Upto B y → Upto (A * B) (mul binary64 x y)
 unfolding mul
@@ -123,9 +129,15 @@ mul-upto nan y A B K h k = tt
 mul-upto (inf s) y A B K h k = absurd h
 mul-upto (fin s m e) nan A B K h k = tt
 mul-upto (fin s m e) (inf t) A B K h k = absurd k
-mul-upto (fin false m e) (fin false n d) A B K h k = round-upto (m * up e * (n * up d)) (down e * down d) (A * B) (mul-pos (down-pos e) (down-pos d)) K (cross (m * up e) A (down e) (n * up d) B (down d) h k)
-mul-upto (fin false m e) (fin true n d) A B K h k = round-of-zero true (m * up e * (n * up d)) (down e * down d) (A * B) (mul-pos (down-pos e) (down-pos d)) (ap (λ (x : ℕ). m * up e * (x * up d)) k ∙ ap (λ (x : ℕ). m * up e * x) (zero-mul (up d)) ∙ mul-zero (m * up e))
-mul-upto (fin true m e) (fin t n d) A B K h k = round-of-zero (unlike true t) (m * up e * (n * up d)) (down e * down d) (A * B) (mul-pos (down-pos e) (down-pos d)) (ap (λ (x : ℕ). x * up e * (n * up d)) h ∙ ap (λ (x : ℕ). x * (n * up d)) (zero-mul (up e)) ∙ zero-mul (n * up d))
+mul-upto (fin false m e) (fin false n d) A B K h k =
+    round-upto (m * up e * (n * up d)) (down e * down d) (A * B) (mul-pos (down-pos e) (down-pos d)) K
+    (cross (m * up e) A (down e) (n * up d) B (down d) h k)
+mul-upto (fin false m e) (fin true n d) A B K h k =
+    round-of-zero true (m * up e * (n * up d)) (down e * down d) (A * B) (mul-pos (down-pos e) (down-pos d))
+    (ap (λ (x : ℕ). m * up e * (x * up d)) k ∙ ap (λ (x : ℕ). m * up e * x) (zero-mul (up d)) ∙ mul-zero (m * up e))
+mul-upto (fin true m e) (fin t n d) A B K h k =
+    round-of-zero (unlike true t) (m * up e * (n * up d)) (down e * down d) (A * B) (mul-pos (down-pos e) (down-pos d))
+    (ap (λ (x : ℕ). x * up e * (n * up d)) h ∙ ap (λ (x : ℕ). x * (n * up d)) (zero-mul (up e)) ∙ zero-mul (n * up d))
 
 pub div-below : (x t : Float) (A : ℕ) → A ≤ 2 ^ 53 → Below A x → AtLeast1 t → Below A (div binary64 x t)
 unfolding div
@@ -144,8 +156,12 @@ div-below (fin s m e) (fin false zero d) A K h g = absurd (none (down d) (0 * up
   where
     none : (a b : ℕ) → 0 < a → b ≡ 0 → a ≤ b → ⊥
     none a b x y z = omega arith
-div-below (fin true m e) (fin false (suc n) d) A K h g = rw (eqb·suc-zero n) (below-negative (round binary64 true (m * up e * down d) (suc n * up d * down e)) A (round-signed binary64 true (m * up e * down d) (suc n * up d * down e)))
-div-below (fin false m e) (fin false (suc n) d) A K h g = rw (eqb·suc-zero n) (round-below false (m * up e * down d) (suc n * up d * down e) A (mul-pos (mul-pos (zero-lt-suc n) (up-pos d)) (down-pos e)) K (share (m * up e) (down e) (down d) (suc n * up d) h (g .1)))
+div-below (fin true m e) (fin false (suc n) d) A K h g =
+    rw (eqb·suc-zero n)
+    (below-negative (round binary64 true (m * up e * down d) (suc n * up d * down e)) A (round-signed binary64 true (m * up e * down d) (suc n * up d * down e)))
+div-below (fin false m e) (fin false (suc n) d) A K h g =
+    rw (eqb·suc-zero n)
+    (round-below false (m * up e * down d) (suc n * up d * down e) A (mul-pos (mul-pos (zero-lt-suc n) (up-pos d)) (down-pos e)) K (share (m * up e) (down e) (down d) (suc n * up d) h (g .1)))
   where
     share : (a c b N : ℕ) → a ≤ A * c → b ≤ N → a * b ≤ A * (N * c)
     share a c b N h k = le-trans (mul-le-mul-right b h) (le-trans (mul-le-mul-left (A * c) k) (le-of-eq (mul-assoc A c N ∙ ap (λ (x : ℕ). A * x) (mul-comm c N))))

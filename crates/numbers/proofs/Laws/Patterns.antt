@@ -70,7 +70,8 @@ round-units : (f : Format) (s : Bool) (m : ℕ) (e : ℤ) (j : ℕ) → T (fits 
 round-units f s m e j F small fine h =
     let n = m * 2 ^ j in
     round-same f s (m * up e) (down e) n (2 ^ low f) (down-pos e) (pow-pos (low f)) h
-    ∙ same-value f (round f s n (2 ^ low f)) (fin s m e) s n (round-fits f s n (2 ^ low f)) F (round-exact f s n (2 ^ low f) m j (pow-pos (low f)) small fine refl) (refl, h)
+    ∙ same-value f (round f s n (2 ^ low f)) (fin s m e) s n (round-fits f s n (2 ^ low f)) F
+    (round-exact f s n (2 ^ low f) m j (pow-pos (low f)) small fine refl) (refl, h)
 
 pub round-own : (f : Format) (s : Bool) (m : ℕ) (e : ℤ) → T (fits f (fin s m e)) → round f s (m * up e) (down e) ≡ fin s m e
 round-own f s zero e F = round-units f s zero e 0 F (pow-pos (prec f)) (pow-pos (low f + suc (emax f))) (none (0 * up e) (down e) (2 ^ low f) (zero-mul (up e)))
@@ -82,7 +83,9 @@ round-own f s (suc m) e F =
     let p = place (low f) e (P .2) in
     let j = p .0 in
     let same : suc m * up e * 2 ^ low f ≡ suc m * 2 ^ j * down e = p .2 (suc m) in
-    let less : suc m * 2 ^ j * down e < 2 ^ (low f + suc (emax f)) * down e = lt-of-le-of-lt (le-of-eq (sym same)) (lt-of-lt-of-le (mul-lt-mul-of-pos-right (P .3) (pow-pos (low f))) (le-of-eq (mul-right-comm (2 ^ suc (emax f)) (down e) (2 ^ low f) ∙ ap (λ (x : ℕ). x * down e) (two-pow (suc (emax f)) (low f) (low f + suc (emax f)) (turn (emax f) (low f)))))) in
+    let less : suc m * 2 ^ j * down e < 2 ^ (low f + suc (emax f)) * down e =
+    lt-of-le-of-lt (le-of-eq (sym same))
+    (lt-of-lt-of-le (mul-lt-mul-of-pos-right (P .3) (pow-pos (low f))) (le-of-eq (mul-right-comm (2 ^ suc (emax f)) (down e) (2 ^ low f) ∙ ap (λ (x : ℕ). x * down e) (two-pow (suc (emax f)) (low f) (low f + suc (emax f)) (turn (emax f) (low f)))))) in
     round-units f s (suc m) e j F (P .1) (lt-of-mul-lt-mul-right (down e) less) same
   where
     turn : (a b : ℕ) → suc a + b ≡ b + suc a
@@ -96,7 +99,9 @@ ofBits-is b = refl
 
 pub normal-field : (s : Bool) (j t : ℕ) → suc j < 2047 → ofFields binary64 s (suc j) t ≡ odd 53 s (2 ^ 52 + t) j 1074
 unfolding ofFields
-normal-field s j t h = cond-no (eqb (suc j) 2047) (cond (eqb t 0) (inf s) nan) (odd 53 s (2 ^ 52 + t) j 1074) (not-T (eqb (suc j) 2047) (λ u. clash j h (eqb→eq (suc j) 2047 u)))
+normal-field s j t h =
+    cond-no (eqb (suc j) 2047) (cond (eqb t 0) (inf s) nan) (odd 53 s (2 ^ 52 + t) j 1074)
+    (not-T (eqb (suc j) 2047) (λ u. clash j h (eqb→eq (suc j) 2047 u)))
   where
     clash : (j : ℕ) → suc j < 2047 → suc j ≡ 2047 → ⊥
     clash j a b = omega arith

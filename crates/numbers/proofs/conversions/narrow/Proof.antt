@@ -16,8 +16,8 @@ returns : tie.Need-returns
 unfolding ofBits
 returns c = zero-by-zero binary32 ∙ sym (ap narrow (ne-nan (c .before .args .x) (c .if1 .taken)) ∙ narrow-nan)
 
-float-to-bits-b : tie.Need-float-to-bits-b
-float-to-bits-b c = not-ne (c .before .args .x) (c .if1 .left)
+float-to-bits-pattern : tie.Need-float-to-bits-pattern
+float-to-bits-pattern c = not-ne (c .before .args .x) (c .if1 .left)
 
 narrow-fields-requires : tie.Need-narrow-fields-requires
 narrow-fields-requires c κs = field-ranges (c .before .args .x) (held (c .before)) (not-ne (c .before .args .x) (c .if1 .left))
@@ -40,4 +40,4 @@ returns-2 : tie.Need-returns-2
 returns-2 c = let s = c .before .before in narrow-pattern (s .args .x) (held s) (c .narrow-fields .result) (c .narrow-fields .ensures)
 
 pub narrow-spec : {M : Type 1} → statement M
-narrow-spec = tie.close (tie.spec returns float-to-bits-b narrow-fields-requires mul-result add-result cast-result float-from-bits-result returns-2)
+narrow-spec = tie.close (tie.spec returns float-to-bits-pattern narrow-fields-requires mul-result add-result cast-result float-from-bits-result returns-2)

@@ -15,8 +15,8 @@ held c = subst T (sym (c .good .0 .1)) tt
 returns : tie.Need-returns
 returns c = round-nan (c .before .args .x) (ne-nan (c .before .args .x) (c .if1 .taken))
 
-float-to-bits-b : tie.Need-float-to-bits-b
-float-to-bits-b c = not-ne (c .before .args .x) (c .if1 .left)
+float-to-bits-bits : tie.Need-float-to-bits-bits
+float-to-bits-bits c = not-ne (c .before .args .x) (c .if1 .left)
 
 returns-2 : tie.Need-returns-2
 returns-2 c =
@@ -36,4 +36,4 @@ returns-3 c =
     c .round-fields .ensures ∙ round-fields (s .args .x) (held s) false (lt-leb _ _ (c .before .if2 .left))
 
 pub round-to-u64-spec : {M : Type 1} → statement M
-round-to-u64-spec = tie.close (tie.spec returns float-to-bits-b returns-2 round-fields-requires returns-3)
+round-to-u64-spec = tie.close (tie.spec returns float-to-bits-bits returns-2 round-fields-requires returns-3)
