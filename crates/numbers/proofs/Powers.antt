@@ -30,7 +30,7 @@ unfolding powi
 pow-start r len h = ap (λ (k : ℕ). powBits k r len r) (sym (highest len h))
 
 -- `bit` says whether bit n - 1 of len is one.
-pub pow-step : (n : ℕ) (r : Float) (len : ℕ) (p answer : Float) (bit : Bool) → 0 < n → n ≤ 31 → eqb (len / (1 * 2 ^ (n - 1) % 2 ^ 32) % 2) 1 ≡ bit
+pub pow-step : (n : ℕ) (r : Float) (len : ℕ) (p answer : Float) (bit : Bool) → 0 < n → n ≤ 32 → eqb (len / (1 * 2 ^ (n - 1) % 2 ^ 32) % 2) 1 ≡ bit
     → powBits n r len p ≡ answer → powBits (n - 1) r len (cond bit ((p ⊗ p) ⊗ r) (p ⊗ p)) ≡ answer
 unfolding powBits
 pow-step zero r len p answer bit h k t e = absurd (omega arith)

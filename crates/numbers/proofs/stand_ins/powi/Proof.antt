@@ -14,7 +14,7 @@ use Rattle.numbers.proofs.stand_ins.powi.Statement.{statement}
 use Rattle.numbers.proofs.stand_ins.powi.Tie as tie
 
 abbrev Inv-loop : tie.InvT-loop
-Inv-loop r len p₀ zeros bits₀ p bits = (bits ≤ 31) × (powBits bits r len p ≡ StandIns.powi r len)
+Inv-loop r len p₀ zeros bits₀ p bits = (bits ≤ 32) × (powBits bits r len p ≡ StandIns.powi r len)
 
 abbrev μ-loop : tie.MeasureT-loop
 μ-loop r len p₀ zeros bits₀ p bits = bits
