@@ -1,9 +1,19 @@
 //! What the static library made from the Rattle exports, as safe functions,
-//! and the names of the exports by group, so that a comparison can tell which
-//! of them it left out. Nothing checks these declarations against the Rattle,
-//! so they are read beside it whenever either changes.
+//! and a list of the exports by group, so that a comparison can tell which of
+//! them it left out. A linker sees names and no types, so `tests/exports.rs`
+//! holds the lists against the Rattle's own text.
 
-/// Declares a group of exports and the list of their names.
+/// An exported function as it is declared here.
+#[derive(Clone, Copy, Debug)]
+pub struct Export {
+    pub name: &'static str,
+    pub symbol: &'static str,
+    /// The types of its arguments and of its result.
+    pub arguments: &'static [&'static str],
+    pub result: &'static str,
+}
+
+/// Declares a group of exports and the list of them.
 macro_rules! exports {
     ($(#[$about:meta])* $list:ident: $(
         $(#[$meta:meta])* $symbol:literal $name:ident($($arg:ident: $type:ty),*) -> $result:ty;
@@ -15,7 +25,12 @@ macro_rules! exports {
         }
 
         $(#[$about])*
-        pub const $list: &[&str] = &[$(stringify!($name)),*];
+        pub const $list: &[Export] = &[$(Export {
+            name: stringify!($name),
+            symbol: $symbol,
+            arguments: &[$(stringify!($type)),*],
+            result: stringify!($result),
+        }),*];
     };
 }
 

@@ -6,7 +6,7 @@ use std::process::ExitCode;
 
 use compare::arguments::{self, Arguments};
 use compare::floats;
-use compare::library;
+use compare::library::{self, Export};
 use compare::random::Random;
 use compare::report::{self, Bits, Tally};
 use compare::rust::envelope::{TimeUnit, Timing, unit_of};
@@ -60,7 +60,7 @@ fn main() -> ExitCode {
     println!("seed {:#x}", arguments.seed);
     // By the library's list, so that a helper nobody compares has no case.
     let mut tallies = Vec::new();
-    for &name in library::NUMBERS {
+    for &Export { name, .. } in library::NUMBERS {
         let mut tally = Tally::new(name);
         if let Some((_, comparison)) = COMPARISONS.iter().find(|(of, _)| *of == name) {
             let mut source = Source {
