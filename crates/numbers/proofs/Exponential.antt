@@ -6,14 +6,9 @@ use lib.Ieee.{Float, binary64, ofBits}
 use Rattle.numbers.specs.Rounded.{_⊕_, _⊗_, _⊘_}
 use Rattle.numbers.specs.Constants.{one, two}
 use Rattle.numbers.specs.StandIns.{whole, expSeries, doublings, expM1}
+use Rattle.numbers.proofs.Laws.Literals.{one', two'}
 
--- 1, 2 and w = z / 64, with the constants as the code writes them.
-abbrev one' : Float
-one' = ofBits binary64 0x3ff0_0000_0000_0000
-
-abbrev two' : Float
-two' = ofBits binary64 0x4000_0000_0000_0000
-
+-- w = z / 64, with the divisor as the code writes it.
 abbrev pub reduced : Float → Float
 reduced z = z ⊘ ofBits binary64 0x4050_0000_0000_0000
 

@@ -1,9 +1,11 @@
 -- Laws that are not about one helper: order and `compare`, powers of two and digits, NaN and the sign of a rounding, bit
--- patterns, the pattern of a rounded binary32, adding +0, and bounds on binary64 results.
+-- patterns, the pattern of a rounded binary32, zeros and adding +0, constants as the code
+-- writes them, and bounds on binary64 results.
 pub mod Order
 pub mod Digits
 pub mod Floats
 pub mod Patterns
 pub mod Binary32
 pub mod Zero
+pub mod Literals
 pub mod Bounds

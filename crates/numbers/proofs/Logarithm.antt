@@ -20,16 +20,11 @@ use Rattle.numbers.specs.Rounded.{_⊕_, _⊖_, _⊗_, _⊘_}
 use Rattle.numbers.specs.Constants as Constants
 use Rattle.numbers.specs.Constants.{one, two, ln2}
 use Rattle.numbers.specs.StandIns.{whole, lnSeries, lnOf, lnSplit, ln1p, significand, exponent}
+use Rattle.numbers.proofs.Laws.Literals.{half', one', two'}
 use Rattle.numbers.proofs.Laws.Patterns.{ofBits-is}
 use Rattle.numbers.proofs.Significand.{fieldSignificand, fieldExponent, parts-by-fields}
 
--- 1 and 0.5 as the code writes them, and w = 1 + a.
-abbrev one' : Float
-one' = ofBits binary64 0x3ff0_0000_0000_0000
-
-abbrev half' : Float
-half' = ofBits binary64 0x3fe0_0000_0000_0000
-
+-- w = 1 + a.
 abbrev pub W : Float → Float
 W a = one' ⊕ a
 
@@ -54,7 +49,7 @@ series-done zero s t answer h e = e
 series-done (suc n) s t answer h e = absurd (omega arith)
 
 pub ln-of-is : (a w m : Float) (e e' : ℤ) (t : Float) → e' ≡ e → t ≡ lnSeries 11 (ratio m) firstTerm
-    → (ofInt binary64 e' ⊗ ln2 ⊕ (ofBits binary64 0x4000_0000_0000_0000 ⊗ ratio m) ⊗ t) ⊗ (a ⊘ (w ⊖ one')) ≡ lnOf a w m e
+    → (ofInt binary64 e' ⊗ ln2 ⊕ (two' ⊗ ratio m) ⊗ t) ⊗ (a ⊘ (w ⊖ one')) ≡ lnOf a w m e
 unfolding lnOf ofBits ofInt lnSeries
 ln-of-is a w m e e' t p q =
     ap (λ (x : ℤ). (ofInt binary64 x ⊗ ln2 ⊕ (two ⊗ ratio m) ⊗ t) ⊗ (a ⊘ (w ⊖ one))) p

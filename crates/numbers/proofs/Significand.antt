@@ -1,7 +1,7 @@
 -- The parts of L's w: `significand` and `exponent` are m and e of w = m × 2^e with 1 ≤ m < 2, and the fields of w's bit pattern give them.
 use mathlib.Core.Path.{_≡_, refl, sym, ap, _∙_, subst}
 use mathlib.Core.Logic.{_⊎_, inl, inr}
-use mathlib.Core.Bool.{Bool, true, false, not, cond, true≢false, false≢true}
+use mathlib.Core.Bool.{Bool, true, false, not, cond, false≢true}
 use Prim.Native.Nat.{ℕ, zero, suc, _+_, _-_, _*_, _/_, _%_, _^_, _≤_, _<_}
 use native.Mathlib.Nat.{le-trans, le-of-eq, lt-of-lt-of-le, lt-of-le-of-lt, le-of-suc-le-suc, lt-of-not-le, lt-irrefl, zero-lt-suc, mul-one, one-mul, mul-assoc, mul-pos, mul-le-mul-right, mul-le-mul-left, mul-left-comm, mul-div-cancel, le-of-mul-le-mul-right, zero-add, zero-mul, eq-zero-or-pos, pow-succ'}
 use native.Mathlib.Omega.{arith}
@@ -14,13 +14,13 @@ use lib.Count.{trailingZeros, under}
 use lib.Ieee.{Float, nan, inf, fin, binary64, up, down, minus, size, odd, fits, ofFields, toBits, round, lt, le, eq, add, sum}
 use lib.Ieee.Digits.{size-lt, size-le, size-reaches}
 use lib.Ieee.Fits.{add-fits, down-pos}
-use lib.Ieee.Exact.{HasValue, round-exact}
 use lib.Ieee.Order.{round-mono, le-of-values}
 use Rattle.numbers.specs.Constants as Constants
 use Rattle.numbers.specs.Constants.{one, two}
 use Rattle.numbers.specs.StandIns.{significand, exponent}
 use Rattle.numbers.proofs.Laws.Order.{le-or-lt}
 use Rattle.numbers.proofs.Laws.Digits.{two-pow, size-pos, size-shift}
+use Rattle.numbers.proofs.Laws.Zero.{round-zero}
 use Rattle.numbers.proofs.Laws.Floats.{Signed, round-signed, le-says}
 use Rattle.numbers.proofs.Laws.Patterns.{toBits-is, fits-parts, Place, place, normal-field}
 
@@ -230,17 +230,9 @@ negative-not-above (inf false) s h = false≢true s
 negative-not-above (fin true m e) s h = false≢true h
 negative-not-above (fin false m e) s h = false≢true s
 
-zero-not-above : (x : Float) (c : ℕ) → 0 < c → HasValue x false 0 c → lt Constants.zero x ≡ true → ⊥
+zero-not-above : lt Constants.zero Constants.zero ≡ true → ⊥
 unfolding lt
-zero-not-above nan c C v h = v
-zero-not-above (inf s) c C v h = v
-zero-not-above (fin true m e) c C v h = true≢false (v .0)
-zero-not-above (fin false m e) c C v h =
-    let p : 0 * down e < m * up e * 1 = ltb-true (0 * down e) (m * up e * 1) h in
-    lt-irrefl 0 (subst (λ (x : ℕ). 0 < x) (v .1 ∙ zero-mul (down e)) (mul-pos (tidy (0 * down e) (m * up e) p) C))
-  where
-    tidy : (a b : ℕ) → a < b * 1 → 0 < b
-    tidy a b h = omega arith
+zero-not-above h = false≢true h
 
 -- 1 - n × 2^d, where it is above 0, is a 2^53rd at least.
 gap : (n : ℕ) (d : ℤ) → T (fits binary64 (fin true n d)) → 0 < 1 * down d - n * up d * 1 → 1 * down d ≤ (1 * down d - n * up d * 1) * 2 ^ 53
@@ -280,7 +272,7 @@ sum-at-least (fin true n d) F h k = go (ltb (1 * down d) (n * up d * 1)) h
         absurd
         (negative-not-above (round binary64 true (n * up d * 1 - 1 * down d) (1 * down d)) (round-signed binary64 true (n * up d * 1 - 1 * down d) (1 * down d)) h)
     go false h = elim (eq-zero-or-pos (1 * down d - n * up d * 1)) [
-      | inl z ↦ absurd (zero-not-above (round binary64 false 0 (1 * down d)) (1 * down d) C (round-exact binary64 false 0 (1 * down d) 0 0 C (pow-pos 53) (pow-pos 2098) (zero-mul (2 ^ 1074) ∙ sym (zero-mul (1 * down d)))) (subst (λ (x : ℕ). lt Constants.zero (round binary64 false x (1 * down d)) ≡ true) z h))
+      | inl z ↦ absurd (zero-not-above (rw (z, round-zero binary64 false (1 * down d) C) at h))
       | inr p ↦ at-least (1 * down d - n * up d * 1) (1 * down d) C (gap n d F p)
     ]
 

@@ -1,22 +1,21 @@
 -- Bounds on binary64 results: what stays at most B, or from 0 to B, through rounding, product, quotient and `max`.
 use mathlib.Core.Path.{_≡_, refl, sym, ap, _∙_, subst}
 use mathlib.Core.Bool.{Bool, true, false, not, cond, true≢false, false≢true}
-use mathlib.Core.Logic.{inl, inr}
 use Prim.Native.Nat.{ℕ, zero, suc, _+_, _*_, _^_, _≤_, _<_, zero-le}
-use native.Mathlib.Nat.{le-trans, le-of-eq, zero-lt-suc, lt-irrefl, mul-one, zero-mul, mul-zero, mul-comm, mul-assoc, mul-right-comm, mul-mul-mul-comm, mul-pos, mul-le-mul-left, mul-le-mul-right, le-of-mul-le-mul-right, eq-zero-or-pos}
+use native.Mathlib.Nat.{le-trans, le-of-eq, zero-lt-suc, lt-irrefl, mul-one, zero-mul, mul-zero, mul-comm, mul-assoc, mul-right-comm, mul-mul-mul-comm, mul-pos, mul-le-mul-left, mul-le-mul-right, le-of-mul-le-mul-right}
 use native.Mathlib.Omega.{arith}
 use borrow.Author.Tests.{ltb-false}
 use lib.IntN.{ℤ, pos}
 use lib.Dec.{T, ltb, nltb→le, eqb·suc-zero, lit≤}
-use lib.Pow.{pow-pos}
 use lib.Ieee.{Float, nan, inf, fin, binary64, up, down, round, mul, div, lt, eq, le, isNan, unlike}
 use lib.Ieee.Fits.{up-pos, down-pos}
-use lib.Ieee.Exact.{HasValue, round-exact}
+use lib.Ieee.Exact.{HasValue}
 use lib.Ieee.Order.{round-mono}
 use lib.Ieee.Back.{round-whole}
 use Rattle.numbers.specs.Constants as Constants
 use Rattle.numbers.specs.Constants.{one}
 use Rattle.numbers.specs.Limits.{max}
+use Rattle.numbers.proofs.Laws.Zero.{round-zero}
 use Rattle.numbers.proofs.Laws.Floats.{Signed, round-signed, le-says}
 
 -- At most B, or no number.
@@ -92,18 +91,11 @@ no-size zero e h = refl
 no-size (suc m) e h = absurd (lt-irrefl 0 (subst (λ (x : ℕ). 0 < x) h (mul-pos (zero-lt-suc m) (up-pos e))))
 
 round-of-zero : (s : Bool) (a c B : ℕ) → 0 < c → a ≡ 0 → Upto B (round binary64 s a c)
-round-of-zero s a c B C z =
-    subst (λ (x : ℕ). Upto B (round binary64 s x c)) (sym z)
-    (go (round binary64 s 0 c) (round-exact binary64 s 0 c 0 0 C (pow-pos 53) (pow-pos 2098) (zero-mul (2 ^ 1074) ∙ sym (zero-mul c))))
+round-of-zero s a c B C z = rw (z, round-zero binary64 s c C) (kept s)
   where
-    none : (m : ℕ) (e : ℤ) → m * up e * c ≡ 0 * down e → m * up e ≡ 0
-    none m e h = elim (eq-zero-or-pos (m * up e)) [ inl p ↦ p | inr p ↦ absurd (lt-irrefl 0 (subst (λ (x : ℕ). 0 < x) (h ∙ zero-mul (down e)) (mul-pos p C))) ]
-
-    go : (x : Float) → HasValue x s 0 c → Upto B x
-    go nan v = tt
-    go (inf t) v = absurd v
-    go (fin true m e) v = no-size m e (none m e (v .1))
-    go (fin false m e) v = le-trans (le-of-eq (none m e (v .1))) zero-le
+    kept : (s : Bool) → Upto B (fin s 0 (pos 0))
+    kept true = refl
+    kept false = zero-le
 
 -- ---- products and quotients
 

@@ -1,4 +1,4 @@
--- Adding +0: a positive number stays itself, and a zero of either sign becomes +0.
+-- Rounding zero keeps it with its sign. Adding +0 keeps a positive number and turns a zero of either sign into +0.
 use mathlib.Core.Path.{_≡_, sym, ap, _∙_}
 use mathlib.Core.Bool.{Bool, true, false}
 use Prim.Native.Nat.{ℕ, _+_, _*_, _<_}
@@ -15,10 +15,10 @@ use Rattle.numbers.proofs.Laws.Patterns.{round-own}
 one-down : (e : ℤ) → 0 < down e * 1
 one-down e = mul-pos (down-pos e) (zero-lt-suc 0)
 
-round-zero : (f : Format) (c : ℕ) → 0 < c → round f false 0 c ≡ Constants.zero
-round-zero f c C = round-same f false 0 c 0 1 C (zero-lt-suc 0) (sym (zero-mul c)) ∙ round-own f false 0 (pos 0) zero-fits
+pub round-zero : (f : Format) (s : Bool) (c : ℕ) → 0 < c → round f s 0 c ≡ fin s 0 (pos 0)
+round-zero f s c C = round-same f s 0 c 0 1 C (zero-lt-suc 0) (sym (zero-mul c)) ∙ round-own f s 0 (pos 0) zero-fits
   where
-    zero-fits : T (fits f Constants.zero)
+    zero-fits : T (fits f (fin s 0 (pos 0)))
     zero-fits = unfold fits in tt
 
 pub add-zero-positive : (f : Format) (m : ℕ) (e : ℤ) → T (fits f (fin false m e)) → add f (fin false m e) Constants.zero ≡ fin false m e
@@ -35,5 +35,5 @@ add-zero-positive f m e F =
 
 pub add-zero-zero : (f : Format) (s : Bool) (m : ℕ) (e : ℤ) → m * up e ≡ 0 → add f (fin s m e) Constants.zero ≡ Constants.zero
 unfolding add sum
-add-zero-zero f true m e h = rw (h, zero-mul (down e)) (round-zero f (down e * 1) (one-down e))
-add-zero-zero f false m e h = rw (h, zero-mul (down e)) (round-zero f (down e * 1) (one-down e))
+add-zero-zero f true m e h = rw (h, zero-mul (down e)) (round-zero f false (down e * 1) (one-down e))
+add-zero-zero f false m e h = rw (h, zero-mul (down e)) (round-zero f false (down e * 1) (one-down e))
