@@ -3,5 +3,6 @@ pub mod Constants
 pub mod Rounded
 pub mod Limits
 pub mod Conversions
+pub mod Counts
 pub mod StandIns
 pub mod Parts

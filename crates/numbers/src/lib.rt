@@ -2,6 +2,7 @@
 // every bit to a definition of specs/, on every input, NaN and infinities included.
 mod bits;
 mod conversions;
+mod counts;
 mod limits;
 mod stand_ins;
 
@@ -13,6 +14,8 @@ pub use conversions::narrow;
 pub use conversions::of_u64;
 pub use conversions::round_to_u64;
 pub use conversions::widen;
+pub use counts::saturating_add;
+pub use counts::saturating_sub;
 pub use limits::clamp;
 pub use limits::max;
 pub use limits::unit;
