@@ -1,0 +1,14 @@
+use Rattle.lane.specs.Voices.{setParams, withParams}
+use borrow.Author.Needs.{needs}
+use Rattle.lane.proofs.lanes.Voice.set_params.Statement.{statement}
+use Rattle.lane.proofs.lanes.Voice.set_params.Tie as tie
+
+replan-requires : tie.Need-replan-requires
+replan-requires c κs = search needs
+
+returns : tie.Need-returns
+unfolding setParams withParams
+returns c = c .replan .ensures
+
+pub set-params-spec : {M : Type 1} → statement M
+set-params-spec = tie.close (tie.spec replan-requires returns)

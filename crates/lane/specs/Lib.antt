@@ -1,0 +1,7 @@
+-- Document 01, 'One voice': lane.rs, and mod.rs's settings and stages.
+pub mod Settings
+pub mod Stages
+pub mod Planning
+pub mod Voices
+pub mod Readings
+pub mod Schedule

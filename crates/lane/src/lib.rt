@@ -1,0 +1,18 @@
+// One envelope's stages: lane.rs, and the settings and stages of mod.rs. Planning runs here, at a
+// note, a stage change or a change of settings; the samples in between are drawn from a `Segment`.
+// Where the Rust changes a lane and a segment in place, a `Voice` holds the two and goes in and out
+// by value.
+mod lanes;
+mod settings;
+mod stages;
+mod voices;
+
+pub use lanes::Lane;
+pub use lanes::Spec;
+pub use lanes::Voice;
+pub use settings::EnvelopeParams;
+pub use settings::StealRestart;
+pub use settings::Trigger;
+pub use stages::Stage;
+pub use timing::TimeUnit;
+pub use timing::Timing;
