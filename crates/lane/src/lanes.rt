@@ -58,7 +58,7 @@ pub struct Entered {
 }
 
 // `stage` as the settings set it; `level` is what a delay holds.
-pub fn spec_of(p: EnvelopeParams, stage: Stage, timing: Timing, level: f32) -> Spec
+pub(crate) fn spec_of(p: EnvelopeParams, stage: Stage, timing: Timing, level: f32) -> Spec
     ensures { λ r. ⌜ r ≡ Planning.spec p stage timing level ⌝ }
 {
     let unit = p.unit;
@@ -102,7 +102,7 @@ pub fn spec_of(p: EnvelopeParams, stage: Stage, timing: Timing, level: f32) -> S
 }
 
 // Whether two stages have the same length, target and bend.
-pub fn same_spec(a: Spec, b: Spec) -> bool
+pub(crate) fn same_spec(a: Spec, b: Spec) -> bool
     ensures { λ r. ⌜ r ≡ Planning.same a b ⌝ }
 {
     if a.total == b.total {
@@ -145,7 +145,7 @@ fn join_attack(p: EnvelopeParams, level: f32, spec: Spec) -> Joined
 }
 
 // Where a stage starting at `level` begins: only an attack joins its curve.
-pub fn join(p: EnvelopeParams, stage: Stage, level: f32, spec: Spec) -> Joined
+pub(crate) fn join(p: EnvelopeParams, stage: Stage, level: f32, spec: Spec) -> Joined
     ensures { λ r. ⌜ r ≡ Planning.join p stage level spec ⌝ }
 {
     match stage {
@@ -235,7 +235,7 @@ impl Lane {
     }
 
     // Starts `stage` at `level`, skipping stages that take no time.
-    pub fn enter(self, timing: Timing, stage: Stage, level: f32) -> Voice
+    pub(crate) fn enter(self, timing: Timing, stage: Stage, level: f32) -> Voice
         ensures { λ r. ⌜ r ≡ Planning.enter self timing stage level ⌝ }
     {
         let params = self.params;
@@ -249,7 +249,7 @@ impl Lane {
     }
 
     // `stage` at its target level, until something happens.
-    pub fn hold(self, stage: Stage, spec: Spec) -> Voice
+    pub(crate) fn hold(self, stage: Stage, spec: Spec) -> Voice
         ensures { λ r. ⌜ r ≡ Planning.hold self stage spec ⌝ }
     {
         let params = self.params;
@@ -270,7 +270,7 @@ impl Lane {
     }
 
     // `stage` along the curve from `from` to its target over `total` samples, starting at `pos`.
-    pub fn begin(self, stage: Stage, spec: Spec, from: f32, total: u64, pos: u64) -> Voice
+    pub(crate) fn begin(self, stage: Stage, spec: Spec, from: f32, total: u64, pos: u64) -> Voice
         ensures { λ r. ⌜ r ≡ Planning.begin self stage spec from total pos ⌝ }
     {
         let params = self.params;

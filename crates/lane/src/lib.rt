@@ -3,6 +3,7 @@
 // Where the Rust changes a lane and a segment in place, a `Voice` holds the two and goes in and out
 // by value.
 mod lanes;
+mod refusals;
 mod settings;
 mod stages;
 mod voices;
@@ -10,6 +11,14 @@ mod voices;
 pub use lanes::Lane;
 pub use lanes::Spec;
 pub use lanes::Voice;
+pub use refusals::ACCEPTED;
+pub use refusals::MAX_SAMPLE_RATE;
+pub use refusals::MAX_TIME;
+pub use refusals::RATE_OVER;
+pub use refusals::TIME_OVER;
+pub use refusals::refused_fresh;
+pub use refusals::refused_params;
+pub use refusals::refused_timing;
 pub use settings::EnvelopeParams;
 pub use settings::StealRestart;
 pub use settings::Trigger;

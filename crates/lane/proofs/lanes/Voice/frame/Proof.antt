@@ -1,3 +1,4 @@
+use Prim.Native.Nat.{_-_}
 use Rattle.lane.specs.Voices.{frame}
 use native.Mathlib.Omega.{arith}
 use borrow.Author.Tests.{eq-eqb, ne-eqb}

@@ -1,0 +1,35 @@
+use Rattle.lane.specs.Refusals.{fresh, timing, params, rateOver}
+use native.Mathlib.Omega.{arith}
+use Prim.Native.Nat.{ℕ}
+use mathlib.Core.Logic.{_≢_}
+use mathlib.Core.Bool.{Bool, true, false, cond}
+use mathlib.Core.Path.{_≡_, refl, _∙_}
+use borrow.Author.Needs.{needs}
+use Rattle.lane.proofs.refusals.refused_fresh.Statement.{statement}
+use Rattle.lane.proofs.refusals.refused_fresh.Tie as tie
+
+some : (b : Bool) (n r : ℕ) → r ≡ cond b 4 0 → r ≢ 0 → r ≡ cond b 4 n
+some true n r e h = e
+some false n r e h = absurd (h e)
+
+none : (b : Bool) (n r : ℕ) → r ≡ cond b 4 0 → r ≡ 0 → n ≡ cond b 4 n
+none true n r e h = absurd (omega arith)
+none false n r e h = refl
+
+refused-timing-requires : tie.Need-refused-timing-requires
+refused-timing-requires c κs = search needs
+
+returns : tie.Need-returns
+unfolding fresh timing
+returns c = some (rateOver (c .before .before .args .timing)) (params (c .before .before .args .p)) (c .before .refused-timing .result) (c .before .refused-timing .ensures) (c .if1 .taken)
+
+refused-params-requires : tie.Need-refused-params-requires
+refused-params-requires c κs = search needs
+
+returns-2 : tie.Need-returns-2
+unfolding fresh timing
+returns-2 c = c .refused-params .ensures ∙ none (rateOver (c .before .before .before .args .timing)) (params (c .before .before .before .args .p)) (c .before .before .refused-timing .result) (c .before .before .refused-timing .ensures) (c .before .if1 .left)
+
+pub refused-fresh-spec : {M : Type 1} → statement M
+refused-fresh-spec =
+    tie.close (tie.spec refused-timing-requires returns refused-params-requires returns-2)

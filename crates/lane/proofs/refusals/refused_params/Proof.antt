@@ -1,0 +1,32 @@
+use Rattle.lane.specs.Refusals.{params, timeOver}
+use lib.Ieee.{ofBits}
+use Rattle.lane.proofs.refusals.refused_params.Statement.{statement}
+use Rattle.lane.proofs.refusals.refused_params.Tie as tie
+
+returns : tie.Need-returns
+unfolding params timeOver ofBits
+returns c = simp (c .if1 .taken)
+
+returns-2 : tie.Need-returns-2
+unfolding params timeOver ofBits
+returns-2 c = simp (c .before .before .if1 .left, c .if2 .taken)
+
+returns-3 : tie.Need-returns-3
+unfolding params timeOver ofBits
+returns-3 c = simp (c .before .before .before .before .if1 .left, c .before .before .if2 .left, c .if3 .taken)
+
+returns-4 : tie.Need-returns-4
+unfolding params timeOver ofBits
+returns-4 c = simp (c .before .before .before .before .before .before .if1 .left, c .before .before .before .before .if2 .left, c .before .before .if3 .left, c .if4 .taken)
+
+returns-5 : tie.Need-returns-5
+unfolding params timeOver ofBits
+returns-5 c = simp (c .before .before .before .before .before .before .before .before .if1 .left, c .before .before .before .before .before .before .if2 .left, c .before .before .before .before .if3 .left, c .before .before .if4 .left, c .if5 .taken)
+
+returns-6 : tie.Need-returns-6
+unfolding params timeOver ofBits
+returns-6 c = simp (c .before .before .before .before .before .before .before .before .if1 .left, c .before .before .before .before .before .before .if2 .left, c .before .before .before .before .if3 .left, c .before .before .if4 .left, c .if5 .left)
+
+pub refused-params-spec : {M : Type 1} → statement M
+refused-params-spec =
+    tie.close (tie.spec returns returns-2 returns-3 returns-4 returns-5 returns-6)
