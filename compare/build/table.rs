@@ -50,13 +50,64 @@ pub const SUBSTITUTIONS: [Substitution; 7] = [
 ];
 
 /// Lines of ours at the end of a file, which reach what is private in it.
-pub const ADDITIONS: [(&str, &str); 2] = [
+pub const ADDITIONS: [(&str, &str); 4] = [
     ("curve.rs", "use crate::stand_ins::StandIn;\n"),
+    ("lane.rs", LANE),
     (
         "mod.rs",
         "pub fn unit_of(value: f32) -> f32 {\n    unit(value)\n}\n",
     ),
+    ("mod.rs", ENVELOPE),
 ];
+
+/// What is left of a stage, and where the Rust would join an attack that
+/// begins when the present stage ends.
+const LANE: &str = "\
+impl Lane {
+    pub(super) fn rest(&self, seg: &Segment) -> u64 {
+        if !seg.is_timed() {
+            return 0;
+        }
+        self.curve_total - self.pos - u64::from(self.seg_len - seg.left)
+    }
+
+    pub(super) fn place(&self, timing: &Timing) -> u64 {
+        let spec = self.spec(Stage::Attack, timing, self.to);
+        self.join_attack(self.to, spec).1
+    }
+}
+";
+
+/// What can't be seen of an envelope from outside.
+const ENVELOPE: &str = "\
+/// What is private in an envelope.
+#[derive(Clone, Copy, Debug)]
+pub struct Inside {
+    /// Frames left of the present segment, `u32::MAX` if it has no end.
+    pub left: u32,
+    /// Frames left of the present stage, 0 if it has no end.
+    pub rest: u64,
+    /// The place at which an attack would begin after the present stage.
+    pub place: u64,
+    /// The present segment's base.
+    pub base: f32,
+}
+
+impl Envelope {
+    pub fn timing(&self) -> &Timing {
+        &self.timing
+    }
+
+    pub fn inside(&self) -> Inside {
+        Inside {
+            left: self.seg.left,
+            rest: self.lane.rest(&self.seg),
+            place: self.lane.place(&self.timing),
+            base: self.seg.base,
+        }
+    }
+}
+";
 
 /// Functions whose answers the machine's mathematical library or its fused
 /// multiply-add would decide. No call of them may be left in a derived file.

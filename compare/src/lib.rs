@@ -5,17 +5,30 @@
 //!   `build.rs`), with [`stand_ins`] and [`simd`] in place of what varies by
 //!   machine or is not among its sources.
 //! - [`library`]: what the static library made from the Rattle exports.
-//! - [`random`], [`floats`] and [`times`]: the inputs.
-//! - [`arguments`] and [`report`]: how a comparison is asked for, and answers.
+//! - [`replay`]: the Rattle's program that plays calls on an envelope, asked
+//!   and compared; [`calls`] has the bytes of both directions.
+//! - [`reference`](mod@reference): the Rust's envelope, with what the paper adds to it.
+//! - [`random`], [`floats`], [`times`] and [`settings`]: the inputs; [`fixed`]
+//!   and [`random_lists`]: lists of calls, with the Rust's answers in [`lists`].
+//! - [`arguments`], [`coverage`] and [`report`]: how a comparison is asked for,
+//!   what it reached, and what it answers.
 //!
-//! `cargo run --release --bin numbers` compares the number helpers, and
-//! `--bin bench` measures them.
+//! `cargo run --release --bin numbers` compares the number helpers, `--bin
+//! envelopes` the single envelope, and `--bin bench` measures the helpers.
 
 pub mod arguments;
+pub mod calls;
+pub mod coverage;
+pub mod fixed;
 pub mod floats;
 pub mod library;
+pub mod lists;
 pub mod random;
+pub mod random_lists;
+pub mod reference;
+pub mod replay;
 pub mod report;
+pub mod settings;
 pub mod simd;
 pub mod stand_ins;
 pub mod times;

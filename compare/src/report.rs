@@ -141,7 +141,14 @@ impl Tally {
         }
     }
 
-    fn is_good(&self) -> bool {
+    #[must_use]
+    pub fn name(&self) -> &'static str {
+        self.name
+    }
+
+    /// Whether there were cases, and no difference.
+    #[must_use]
+    pub fn is_good(&self) -> bool {
         self.cases > 0 && self.differences == 0
     }
 

@@ -1,0 +1,137 @@
+// Writing an answer, 22 words of four bytes, and levels.
+ghost use mathlib.Core.Path.{_≡_};
+ghost use Prim.Native.Nat.{_+_, _*_, _≤_};
+ghost use lib.ListN.{length};
+use envelope::Envelope;
+use lane::Stage;
+use lane::StealRestart;
+use timing::TimeUnit;
+
+// Byte k of a word, from the lowest.
+fn byte(word: u32, k: usize) -> u8 {
+    match k {
+        0 => (word % 0x100) as u8,
+        1 => (word / 0x100 % 0x100) as u8,
+        2 => (word / 0x1_0000 % 0x100) as u8,
+        _ => (word / 0x100_0000) as u8,
+    }
+}
+
+// Four bytes for each word, the lowest first.
+fn put_words(bytes: &mut [u8], words: &[u32], count: usize)
+    requires { ⌜ (count ≤ length (now words)) × (4 * count ≤ length (now bytes)) ⌝ }
+{
+    let end = 4 * count;
+    let mut i = 0;
+    while i < end {
+        bytes[i] = byte(words[i / 4], i % 4);
+        i += 1;
+    }
+}
+
+fn unit_code(x: TimeUnit) -> u32 {
+    match x {
+        TimeUnit::Milliseconds => 0,
+        TimeUnit::Tempo => 1,
+    }
+}
+
+fn restart_code(x: StealRestart) -> u32 {
+    match x {
+        StealRestart::CurrentLevel => 0,
+        StealRestart::StartLevel => 1,
+    }
+}
+
+fn stage_code(x: Stage) -> u32 {
+    match x {
+        Stage::Idle => 0,
+        Stage::Delay => 1,
+        Stage::Attack => 2,
+        Stage::Hold => 3,
+        Stage::Decay => 4,
+        Stage::Sustain => 5,
+        Stage::Release => 6,
+    }
+}
+
+fn flag(x: bool) -> u32 {
+    if x { 1 } else { 0 }
+}
+
+// The answer to a call that left the envelope e.
+fn reply(refusal: u32, e: Envelope) -> [u32; 22]
+    ensures { λ r. ⌜ 22 ≡ length r ⌝ }
+{
+    let p = e.params_now();
+    let unit = p.unit;
+    let restart = p.steal_restart;
+    let tail = e.tail_now();
+    let lead = e.lead_now();
+    [
+        refusal,
+        unit_code(unit),
+        numbers::f32_to_bits(p.delay),
+        numbers::f32_to_bits(p.attack),
+        numbers::f32_to_bits(p.hold),
+        numbers::f32_to_bits(p.decay),
+        numbers::f32_to_bits(p.sustain),
+        numbers::f32_to_bits(p.release),
+        numbers::f32_to_bits(p.attack_curve),
+        numbers::f32_to_bits(p.decay_curve),
+        numbers::f32_to_bits(p.release_curve),
+        numbers::f32_to_bits(p.start),
+        numbers::f32_to_bits(p.end),
+        flag(p.legato_inverted),
+        restart_code(restart),
+        stage_code(e.stage_now()),
+        flag(e.is_idle_now()),
+        numbers::f32_to_bits(e.level_now()),
+        (tail % 0x1_0000_0000) as u32,
+        (tail / 0x1_0000_0000) as u32,
+        (lead % 0x1_0000_0000) as u32,
+        (lead / 0x1_0000_0000) as u32,
+    ]
+}
+
+// The answer to a call that left the envelope e.
+pub(crate) fn write_reply(refusal: u32, e: Envelope) {
+    let words = reply(refusal, e);
+    let mut bytes = [0u8; 88];
+    put_words(&mut bytes, &words, 22);
+    io::write_all(1, &bytes);
+}
+
+// The bits of up to 1024 levels, from levels[from] on.
+fn write_some(levels: &[f32], from: usize, count: usize)
+    requires { ⌜ (count ≤ 1024) × (from + count ≤ length (now levels)) ⌝ }
+{
+    let mut words = [0u32; 1024];
+    let mut i = 0;
+    while i < count {
+        words[i] = numbers::f32_to_bits(levels[from + i]);
+        i += 1;
+    }
+    let mut bytes = [0u8; 4096];
+    put_words(&mut bytes, &words, count);
+    io::write_all(1, &bytes[0..4 * count]);
+}
+
+// The bits of the first `count` levels.
+pub(crate) fn write_levels(levels: &[f32], count: usize)
+    requires { ⌜ count ≤ length (now levels) ⌝ }
+{
+    let mut done = 0;
+    while done < count {
+        let some = least(count - done, 1024);
+        write_some(levels, done, some);
+        done += some;
+    }
+}
+
+fn least(a: usize, b: usize) -> usize
+    requires { ⌜ (1 ≤ a) × (1 ≤ b) ⌝ }
+    ensures { λ r. ⌜ (1 ≤ r) × (r ≤ a) × (r ≤ b) ⌝ }
+{
+    if a < b { a } else { b }
+}
