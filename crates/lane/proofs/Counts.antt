@@ -1,6 +1,6 @@
 -- How long a stage can be: below 2^64 samples by any settings, and at most 659,706,976,665,600 under document 01's limits.
-use mathlib.Core.Path.{_≡_}
-use mathlib.Core.Bool.{true, false}
+use mathlib.Core.Path.{_≡_, refl}
+use mathlib.Core.Bool.{Bool, true, false, _||_, true≢false}
 use Prim.Native.Nat.{ℕ, _*_, _≤_, min}
 use native.Mathlib.Omega.{arith}
 use lib.Ieee.{Float, nan, inf, fin, up, down}
@@ -12,6 +12,7 @@ use Rattle.timing.proofs.Counts.{samples-le}
 use Rattle.lane.specs.declared.settings.EnvelopeParams.{EnvelopeParams}
 use Rattle.lane.specs.declared.stages.Stage.{Stage}
 use Rattle.lane.specs.declared.stages.Stage.the-variants.{Idle, Delay, Attack, Hold, Decay, Sustain, Release}
+use Rattle.lane.specs.Refusals.{timeOver, rateOver}
 use Rattle.lane.specs.Planning.{spec}
 
 -- The largest u64, at which the definitions hold a sum.
@@ -57,9 +58,20 @@ counted p t =
     counted-by largest p t (samples-fit t (p .delay) (p .unit)) (samples-fit t (p .attack) (p .unit)) (samples-fit t (p .hold) (p .unit))
     (samples-fit t (p .decay) (p .unit)) (samples-fit t (p .release) (p .unit))
 
-pub counted-limited : (p : EnvelopeParams) (t : Timing)
-    → over (p .delay) ≡ false → over (p .attack) ≡ false → over (p .hold) ≡ false → over (p .decay) ≡ false → over (p .release) ≡ false
-    → over (t .«sample_rate») ≡ false → Counted 659706976665600 p t
-counted-limited p t d a h c r f =
-    counted-by 659706976665600 p t (samples-le t (p .delay) (p .unit) d f) (samples-le t (p .attack) (p .unit) a f)
+or-false : (a b : Bool) → a || b ≡ false → (a ≡ false) × (b ≡ false)
+or-false true b e = absurd (true≢false e)
+or-false false b e = (refl, e)
+
+-- The largest count under the limits.
+abbrev pub most : ℕ
+most = 659706976665600
+
+pub counted-limited : (p : EnvelopeParams) (t : Timing) → timeOver p ≡ false → rateOver t ≡ false → Counted most p t
+unfolding timeOver rateOver
+counted-limited p t e f =
+    let (e₁, r) = or-false (over (p .delay) || over (p .attack) || over (p .hold) || over (p .decay)) (over (p .release)) e in
+    let (e₂, c) = or-false (over (p .delay) || over (p .attack) || over (p .hold)) (over (p .decay)) e₁ in
+    let (e₃, h) = or-false (over (p .delay) || over (p .attack)) (over (p .hold)) e₂ in
+    let (d, a) = or-false (over (p .delay)) (over (p .attack)) e₃ in
+    counted-by most p t (samples-le t (p .delay) (p .unit) d f) (samples-le t (p .attack) (p .unit) a f)
     (samples-le t (p .hold) (p .unit) h f) (samples-le t (p .decay) (p .unit) c f) (samples-le t (p .release) (p .unit) r f)

@@ -1,36 +1,27 @@
 -- A stage that is entered lasts its count less its place, and then the next is entered; one that has nothing left from its place on is skipped.
 use mathlib.Core.Path.{_≡_, refl, sym, ap, ap₂, _∙_, subst}
-use mathlib.Core.Bool.{Bool, true, false, true≢false}
-use Prim.Native.Nat.{ℕ, suc, _+_, _-_, _≤_, _<_}
+use mathlib.Core.Bool.{Bool, true, false}
+use Prim.Native.Nat.{ℕ, _+_, _-_, _≤_, _<_}
 use native.Mathlib.Omega.{arith}
-use borrow.Author.Tests.{ltb-true, ltb-false, lt-ltb, le-ltb}
+use borrow.Author.Tests.{ltb-true, ltb-false}
 use lib.Dec.{ltb}
 use lib.Ieee.{Float}
 use Rattle.timing.specs.declared.Timing.{Timing}
 use Rattle.lane.specs.declared.settings.EnvelopeParams.{EnvelopeParams}
 use Rattle.lane.specs.declared.stages.Stage.{Stage}
-use Rattle.lane.specs.declared.stages.Stage.the-variants.{Idle, Delay, Attack, Hold, Decay, Sustain, Release}
+use Rattle.lane.specs.declared.stages.Stage.the-variants.{Sustain}
 use Rattle.lane.specs.declared.lanes.Spec.{Spec}
 use Rattle.lane.specs.declared.lanes.Joined.{Joined}
 use Rattle.lane.specs.declared.lanes.Lane.{Lane}
 use Rattle.lane.specs.declared.lanes.Voice.{Voice}
-use Rattle.lane.specs.Stages.{next, holds, timedStages}
+use Rattle.lane.specs.Stages.{next, holds}
 use Rattle.lane.specs.Planning.{spec, join, startSegment, findFrom, find, hold, begin, settle, enter, moved}
 use Rattle.lane.specs.Voices.{frames}
 use Rattle.lane.specs.Readings.{rest, lasts}
+use Rattle.lane.proofs.Finding.{find-timed, find-skips}
 use Rattle.lane.proofs.Counts.{largest, counted}
 use Rattle.lane.proofs.Frames.{frames-add, frames-untimed}
 use Rattle.lane.proofs.Timed.{Timed, begin-timed, rest-some, ends, stays}
-
-timedStages-step : (s : Stage) → holds s ≡ false → timedStages s ≡ suc (timedStages (next s))
-unfolding holds timedStages next
-timedStages-step Idle e = absurd (true≢false e)
-timedStages-step Delay e = refl
-timedStages-step Attack e = refl
-timedStages-step Hold e = refl
-timedStages-step Decay e = refl
-timedStages-step Sustain e = absurd (true≢false e)
-timedStages-step Release e = refl
 
 -- The stage s by the plan's settings, and where it begins that is entered at ℓ.
 module _ (l : Lane) (t : Timing) (s : Stage) (ℓ : Float) where
@@ -40,17 +31,13 @@ module _ (l : Lane) (t : Timing) (s : Stage) (ℓ : Float) where
   abbrev pub joined : Joined
   joined = join (l .params) s ℓ planned
 
-  found : holds s ≡ false → enter l t s ℓ ≡ settle l (findFrom (suc (timedStages (next s))) (l .params) t s ℓ)
-  unfolding enter find
-  found e = ap (λ (n : ℕ). settle l (findFrom n (l .params) t s ℓ)) (timedStages-step s e)
-
   pub enter-begins : holds s ≡ false → joined .pos < planned .total → enter l t s ℓ ≡ begin l s planned (joined .from) (planned .total) (joined .pos)
-  unfolding findFrom settle
-  enter-begins e h = found e ∙ rw (lt-ltb (joined .pos) (planned .total) h, e)
+  unfolding enter settle
+  enter-begins e h = rw (find-timed (l .params) t s ℓ e h, e)
 
   pub enter-skips : holds s ≡ false → planned .total ≤ joined .pos → enter l t s ℓ ≡ enter l t (next s) (planned .to)
-  unfolding findFrom enter find
-  enter-skips e h = found e ∙ rw (le-ltb (joined .pos) (planned .total) h)
+  unfolding enter
+  enter-skips e h = ap (settle l) (find-skips (l .params) t s ℓ e h)
 
 -- v is as a plan with the settings p enters the stage s at ℓ.
 abbrev pub Entering : EnvelopeParams → Timing → Voice → Stage → Float → Type 0
@@ -110,6 +97,6 @@ module _ (t : Timing) (p : EnvelopeParams) where
       (subst (λ (x : EnvelopeParams). Passes x t (enter l t s ℓ) s ℓ) i (enter-passes l t s ℓ e))
 
   pub sustains : (k : ℕ) (v : Voice) (ℓ : Float) → Entering p t v Sustain ℓ → frames k t v .lane .stage ≡ Sustain
-  unfolding enter find findFrom timedStages settle holds hold
+  unfolding enter find findFrom settle hold
   sustains k v ℓ (l, i, w) =
       ap (λ (x : Voice). frames k t x .lane .stage) w ∙ ap (λ (x : Voice). x .lane .stage) (frames-untimed t k (enter l t Sustain ℓ) refl)

@@ -53,7 +53,6 @@ module _ (t : Timing) where
   -- n frames in a stage that takes time, and then m.
   until-add : (v : Voice) (s : Stage) (n m : ℕ) → holds s ≡ false → ((k : ℕ) → k < n → frames k t v .lane .stage ≡ s)
       → Until t (frames n t v) m → Until t v (n + m)
-  unfolding holds
   until-add v s n m e w u = record { before = λ k h i. early k (ltb k n) refl h i; then = rw (frames-add t n m v) (u .then) }
     where
       early : (k : ℕ) (x : Bool) → ltb k n ≡ x → k < n + m → frames k t v .lane .stage ≡ Sustain → ⊥
@@ -65,7 +64,6 @@ module _ (t : Timing) where
 -- ---- a sound voice
 
 takes-time : (s : Stage) → leadsUp s ≡ true → holds s ≡ false
-unfolding leadsUp holds
 takes-time Idle a = absurd (false≢true a)
 takes-time Delay a = refl
 takes-time Attack a = refl
@@ -91,7 +89,7 @@ module _ (t : Timing) (p : EnvelopeParams) where
 
   until-next : (s : Stage) → leadsUp s ≡ true → (ℓ : Float) (v : Voice) → Entering p t v (next s) ℓ
       → Until t v (lastFrom (timedStages (next s)) p t (next s) ℓ)
-  unfolding leadsUp next timedStages lastFrom holds
+  unfolding lastFrom
   until-next Idle a ℓ = absurd (false≢true a)
   until-next Delay a ℓ = until-entered Attack ℓ _ refl (until-entered Hold _ _ refl (until-entered Decay _ _ refl (until-now _)))
   until-next Attack a ℓ = until-entered Hold ℓ _ refl (until-entered Decay _ _ refl (until-now _))
@@ -119,7 +117,7 @@ lastFrom-le B p t c (suc n) s ℓ = omega (arith, c s ℓ, lastFrom-le B p t c n
 
 pub lead-plain : (B : ℕ) → 4 * B ≤ largest → (t : Timing) (v : Voice) → Counted B (v .lane .params) t → Sound B v
     → leadsUp (v .lane .stage) ≡ true → lead t v ≡ leadSum t v
-unfolding lead rest timedStages next
+unfolding lead rest
 lead-plain B b t v c i a =
     let s = next (v .lane .stage) in
     let q = is-timed B v i a in
@@ -145,7 +143,7 @@ lead-exact B b t v c i a = rw (lead-plain B b t v c i a) (lead-sum-exact B (omeg
 
 module _ (d a h c : ℕ) where
   scheduled-leads : (k : ℕ) → k < d + a + h + c → leadsUp (scheduled d a h c k) ≡ true
-  unfolding scheduled leadsUp
+  unfolding scheduled
   scheduled-leads k i = rw (lt-ltb k (d + a + h + c) i) (go (ltb k d) (ltb k (d + a)) (ltb k (d + a + h)))
     where
       go : (x y z : Bool) → leadsUp (cond x Delay (cond y Attack (cond z Hold Decay))) ≡ true
@@ -171,7 +169,6 @@ module _ (t : Timing) (x : Trigger) (v : Voice) (e : leavesAlone x v ≡ false) 
   leads k h = rw (lengths t x v k e) (scheduled-leads _ _ _ _ k h)
 
   pub until-sustain : Until t (trigger t x v) span
-  unfolding leadsUp
   until-sustain =
       record {
         before = λ k h i. true≢false (sym (leads k h) ∙ ap leadsUp i);
@@ -188,7 +185,7 @@ module _ (t : Timing) (x : Trigger) (v : Voice) (e : leavesAlone x v ≡ false) 
 
   -- At every frame: in Sustain nothing is left.
   pub lead-scheduled : (j : ℕ) → lead t (frames j t (trigger t x v)) ≡ held (span - j)
-  unfolding lead leadsUp
+  unfolding lead
   lead-scheduled j = go (ltb j span) refl
     where
       go : (y : Bool) → ltb j span ≡ y → lead t (frames j t (trigger t x v)) ≡ held (span - j)

@@ -45,7 +45,7 @@ module _ (t : Timing) (p : EnvelopeParams) (v : Voice) (k : ℕ) where
   stages : (ℓ : Float) → Entering p t v Delay ℓ
       → frames k t v .lane .stage
       ≡ scheduled (samples t (p .delay) (p .unit)) (attackLasts t p ℓ) (samples t (p .hold) (p .unit)) (samples t (p .decay) (p .unit)) k
-  unfolding scheduled next holds lasts spec join
+  unfolding scheduled lasts spec join
   stages ℓ i =
       let d = samples t (p .delay) (p .unit) in
       let a = attackLasts t p ℓ in

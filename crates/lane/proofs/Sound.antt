@@ -17,7 +17,7 @@ use Rattle.lane.specs.declared.lanes.Spec.{Spec}
 use Rattle.lane.specs.declared.lanes.Joined.{Joined}
 use Rattle.lane.specs.declared.lanes.Lane.{Lane}
 use Rattle.lane.specs.declared.lanes.Voice.{Voice}
-use Rattle.lane.specs.Stages.{next, holds, timedStages, isReleased}
+use Rattle.lane.specs.Stages.{next, holds, isReleased}
 use Rattle.lane.specs.Planning.{new, spec, same, startSegment, findFrom, find, hold, begin, settle, enter, moved, advance}
 use Rattle.lane.specs.Voices.{leavesAlone, noteLevel, trigger, release, reset, elapsed, replan, withParams, setParams, stepped, frame, frames}
 use Rattle.lane.specs.Readings.{rest}
@@ -52,10 +52,26 @@ pub frame-params : (t : Timing) (v : Voice) → frame t v .lane .params ≡ v .l
 unfolding frame advance moved startSegment
 frame-params t v = search (cond-params, enter-params)
 
+pub trigger-params : (t : Timing) (x : Trigger) (v : Voice) → trigger t x v .lane .params ≡ v .lane .params
+unfolding trigger
+trigger-params t x v = search (cond-params, enter-params)
+
+pub release-params : (t : Timing) (v : Voice) → release t v .lane .params ≡ v .lane .params
+unfolding release
+release-params t v = search (cond-params, enter-params)
+
+pub reset-params : (t : Timing) (v : Voice) → reset t v .lane .params ≡ v .lane .params
+unfolding reset
+reset-params t v = enter-params (v .lane) t Idle Constants.zero
+
+pub replan-params : (t : Timing) (v : Voice) → replan t v .lane .params ≡ v .lane .params
+unfolding replan hold begin startSegment
+replan-params t v = search (cond-params, enter-params)
+
 -- ---- the calls
 
 pub new-sound : (B : ℕ) (p : EnvelopeParams) → Sound B (new p)
-unfolding new holds
+unfolding new
 new-sound B p = holding refl refl
 
 module _ (B : ℕ) (t : Timing) where
@@ -77,7 +93,7 @@ module _ (B : ℕ) (t : Timing) where
       go false x = rw (enter-skips l t s ℓ e (ltb-false (at .pos) (sp .total) x)) i
 
   pub enter-sound : (l : Lane) (s : Stage) (ℓ : Float) → Counted B (l .params) t → Sound B (enter l t s ℓ)
-  unfolding enter find findFrom timedStages settle hold holds next
+  unfolding enter find findFrom settle hold
   enter-sound l Idle ℓ c = holding refl refl
   enter-sound l Sustain ℓ c = holding refl refl
   enter-sound l Release ℓ c = first-sound l Release ℓ c refl (holding refl refl)
