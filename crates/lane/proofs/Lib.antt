@@ -7,3 +7,5 @@ pub mod Entering
 pub mod Sound
 pub mod Lengths
 pub mod Lead
+pub mod NewNote
+pub mod Bench

@@ -1,4 +1,6 @@
 // An envelope's settings, and how a note reaches it, as mod.rs has them.
+ghost use mathlib.Core.Path.{_≡_};
+ghost use Rattle.lane.specs.Settings as Settings;
 use timing::TimeUnit;
 
 // Where an envelope restarts when its voice, already sounding, takes a new note: from the level it
@@ -71,4 +73,17 @@ impl EnvelopeParams {
         legato_inverted: false,
         steal_restart: StealRestart::StartLevel,
     };
+
+    // Rust's Default.
+    pub fn default() -> Self
+        ensures { λ r. ⌜ r ≡ Settings.amp ⌝ }
+    {
+        Self::AMP
+    }
+
+    pub fn modulation() -> Self
+        ensures { λ r. ⌜ r ≡ Settings.modulation ⌝ }
+    {
+        Self::MODULATION
+    }
 }

@@ -32,7 +32,7 @@ impl Stage {
     }
 
     // Whether it holds its level until something happens.
-    pub fn holds(self) -> bool
+    pub(crate) fn holds(self) -> bool
         ensures { λ r. ⌜ r ≡ Stages.holds self ⌝ }
     {
         match self {
@@ -46,6 +46,7 @@ impl Stage {
         }
     }
 
+    // Whether it is idle, so that its voice can end.
     pub fn is_idle(self) -> bool
         ensures { λ r. ⌜ r ≡ Stages.isIdle self ⌝ }
     {
@@ -61,7 +62,7 @@ impl Stage {
     }
 
     // Whether a release finds nothing left to do.
-    pub fn is_released(self) -> bool
+    pub(crate) fn is_released(self) -> bool
         ensures { λ r. ⌜ r ≡ Stages.isReleased self ⌝ }
     {
         match self {
@@ -76,7 +77,7 @@ impl Stage {
     }
 
     // Whether Sustain is still to come.
-    pub fn leads_up(self) -> bool
+    pub(crate) fn leads_up(self) -> bool
         ensures { λ r. ⌜ r ≡ Stages.leadsUp self ⌝ }
     {
         match self {

@@ -4,6 +4,7 @@ pub mod UnitInterval
 pub mod Narrowing
 pub mod Rounding
 pub mod Exponential
+pub mod ExponentialSize
 pub mod Powers
 pub mod Logarithm
 pub mod Significand

@@ -12,7 +12,7 @@ use mir.Syntax.{w32}
 use mir.Val.{SFits, toZ, ofZ}
 use mir.ValLaws.{toZ-pos, toZ-ofZ}
 use borrow.Author.Tests.{lt-leb, le-ltb}
-use lib.Ieee.{Float, nan, inf, fin, binary64, div, ofBits, ofInt, ofFields, toBits, isNan, fits, nanBits, eq, lt, le}
+use lib.Ieee.{Float, nan, inf, fin, binary64, add, div, ofBits, ofInt, ofFields, toBits, isNan, fits, nanBits, eq, lt, le}
 use lib.Ieee.Bits.{nanBits-above, toBits-lt}
 use lib.Ieee.Fits.{add-fits}
 use lib.Ieee.Scale.{finite}
@@ -22,6 +22,7 @@ use Rattle.numbers.specs.Constants.{one, two, ln2}
 use Rattle.numbers.specs.StandIns.{whole, lnSeries, lnOf, lnSplit, ln1p, significand, exponent}
 use Rattle.numbers.proofs.Laws.Literals.{half', one', two'}
 use Rattle.numbers.proofs.Laws.Patterns.{ofBits-is}
+use Rattle.numbers.proofs.Laws.Zero.{Zero}
 use Rattle.numbers.proofs.Significand.{fieldSignificand, fieldExponent, parts-by-fields}
 
 -- w = 1 + a.
@@ -126,6 +127,13 @@ digits-not-nan t h = subst (λ (v : Bool). T (not v)) (sym (nanBits-above binary
 pub ln-same : (a : Float) → eq (W a) one' ≡ true → a ≡ ln1p a
 unfolding ln1p ofBits
 ln-same a h = simp h
+
+pub ln-zero : (a : Float) → Zero a → Zero (ln1p a)
+ln-zero a z = (z .0, ap ln1p (z .1) ∙ sym (ln-same (fin (z .0) 0 (pos 0)) (go (z .0))))
+  where
+    go : (s : Bool) → eq (W (fin s 0 (pos 0))) one' ≡ true
+    go true = unfold eq add ofBits in refl
+    go false = unfold eq add ofBits in refl
 
 finite-below : (x : Float) → lt Constants.zero x ≡ true → (t : Bool) → lt x (inf false) ≡ t → finite x ≡ t
 unfolding lt

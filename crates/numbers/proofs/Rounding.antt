@@ -5,6 +5,7 @@ use mathlib.Core.Bool.{Bool, true, false, not, cond}
 use Prim.Native.Nat.{ℕ, zero, suc, _+_, _-_, _*_, _/_, _%_, _^_, _≤_, _<_, zero-le, min}
 use native.Mathlib.Nat.{le-trans, le-of-eq, le-of-suc-le-suc, lt-of-lt-of-le, zero-lt-suc, mul-one, mul-assoc, mul-comm, mul-mul-mul-comm, add-mul, mul-pos, mul-le-mul-right, div-eq-of-lt, div-le-self, le-div-iff-mul-le, div-lt-iff-lt-mul, mod-lt, div-add-mod', suc-mul}
 use native.Mathlib.Omega.{arith}
+use lib.IntN.{pos}
 use lib.Dec.{T, ltb, ltb→lt, nltb→le, lit≤, leb}
 use lib.Pow.{pow-add, pow-pos, pow-mono, shl-lt, pow-lt, shl-exact}
 use lib.Ieee.{Float, nan, inf, fin, binary64, up, down, odd, ofFields, toBits, fits}
@@ -15,6 +16,7 @@ use Rattle.numbers.specs.Conversions.{nearestWhole, roundU64}
 use Rattle.numbers.proofs.Laws.Order.{le-or-lt, min-left, min-right}
 use Rattle.numbers.proofs.Laws.Digits.{two-pow, one-shifted}
 use Rattle.numbers.proofs.Laws.Patterns.{normal-field, lead-lt, lead-le, fields-of}
+use Rattle.numbers.proofs.Laws.Zero.{Zero}
 use Rattle.numbers.proofs.Laws.Bounds.{Upto}
 
 -- ---- the nearest whole number as one division
@@ -191,6 +193,13 @@ rounded-negative (suc j) t a z = go (le-or-lt 2047 (suc j))
 pub round-nan : (x : Float) → x ≡ nan → 0 ≡ roundU64 x
 unfolding roundU64
 round-nan x h = sym (ap roundU64 h)
+
+pub zero-rounds : (x : Float) → Zero x → roundU64 x ≡ 0
+zero-rounds x z = ap roundU64 (z .1) ∙ go (z .0)
+  where
+    go : (s : Bool) → roundU64 (fin s 0 (pos 0)) ≡ 0
+    go true = unfold roundU64 in refl
+    go false = unfold roundU64 in refl
 
 pub round-fields : (x : Float) → T (fits binary64 x) → (s : Bool) → leb (2 ^ 63) (toBits binary64 x) ≡ s
     → roundU64 (ofFields binary64 s (toBits binary64 x % 2 ^ 63 / 2 ^ 52) (toBits binary64 x % 2 ^ 52)) ≡ roundU64 x

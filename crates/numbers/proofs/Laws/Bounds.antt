@@ -48,7 +48,7 @@ below-more A B (fin false m e) h k = le-trans k (mul-le-mul-right (down e) h)
 
 -- ---- rounding
 
-upto-of-le : (x y : Float) (B : ℕ) → Signed false x → T (le x y) → HasValue y false B 1 → Upto B x
+pub upto-of-le : (x y : Float) (B : ℕ) → Signed false x → T (le x y) → HasValue y false B 1 → Upto B x
 unfolding le lt eq
 upto-of-le nan y B s h v = tt
 upto-of-le (inf true) y B s h v = absurd (true≢false s)
@@ -99,7 +99,7 @@ round-of-zero s a c B C z = rw (z, round-zero binary64 s c C) (kept s)
 
 -- ---- products and quotients
 
-cross : (a A c b B d : ℕ) → a ≤ A * c → b ≤ B * d → a * b ≤ A * B * (c * d)
+pub cross : (a A c b B d : ℕ) → a ≤ A * c → b ≤ B * d → a * b ≤ A * B * (c * d)
 cross a A c b B d h k = le-trans (mul-le-mul-right b h) (le-trans (mul-le-mul-left (A * c) k) (le-of-eq (mul-mul-mul-comm A c B d)))
 
 -- A number times one from 0 to B that is above 0.
