@@ -20,7 +20,7 @@ type Build = fn(&mut Case) -> bool;
 /// Each case: its name, and what makes it and answers whether it shows what
 /// the name says.
 const CASES: [(&str, Build); 32] = [
-    ("the paper's list", notes::the_paper),
+    ("document 01's sample list", notes::the_sample),
     ("next_level by next_level", notes::one_by_one),
     ("legato on a releasing voice", notes::legato_in_release),
     (
@@ -91,8 +91,8 @@ pub fn lists() -> Result<Vec<List>, String> {
         .collect()
 }
 
-/// The paper's settings.
-const PAPER: EnvelopeParams = EnvelopeParams {
+/// The settings of document 01's sample list.
+const SAMPLE: EnvelopeParams = EnvelopeParams {
     unit: TimeUnit::Milliseconds,
     delay: 2.0,
     attack: 4.0,
@@ -116,7 +116,7 @@ const NONE: EnvelopeParams = EnvelopeParams {
     hold: 0.0,
     decay: 0.0,
     release: 0.0,
-    ..PAPER
+    ..SAMPLE
 };
 
 /// A rate at which a millisecond is a sample.

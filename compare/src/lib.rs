@@ -7,7 +7,7 @@
 //! - [`library`]: what the static library made from the Rattle exports.
 //! - [`replay`]: the Rattle's program that plays calls on an envelope, asked
 //!   and compared; [`calls`] has the bytes of both directions.
-//! - [`reference`](mod@reference): the Rust's envelope, with what the paper adds to it.
+//! - [`reference`](mod@reference): the Rust's envelope, with what document 01 adds to it.
 //! - [`random`], [`floats`], [`times`] and [`settings`]: the inputs; [`fixed`]
 //!   and [`random_lists`]: lists of calls, with the Rust's answers in [`lists`].
 //! - [`arguments`], [`coverage`] and [`report`]: how a comparison is asked for,

@@ -1,4 +1,4 @@
-//! The derived Rust's envelope, with what the paper adds to it: the refusals,
+//! The derived Rust's envelope, with what document 01 adds to it: the refusals,
 //! tail and lead. Lead is summed up from the plan, and can be held against a
 //! copy of the envelope that is run on.
 

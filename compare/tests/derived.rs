@@ -1,4 +1,4 @@
-//! The derived Rust plays the paper's first example, alone and in a bank.
+//! The derived Rust plays document 01's sample list, alone and in a bank.
 
 use compare::rust::envelope::{
     Envelope, EnvelopeBank, EnvelopeParams, StealRestart, TimeUnit, Timing, Trigger,

@@ -1,10 +1,10 @@
 //! Cases about blocks: their lengths, and the ends of segments within them.
 
-use super::{Case, NONE, PAPER};
+use super::{Case, NONE, SAMPLE};
 use crate::rust::envelope::{EnvelopeParams, Stage};
 
 pub(super) fn short_blocks(case: &mut Case) -> bool {
-    case.note(PAPER);
+    case.note(SAMPLE);
     let mut levels = Vec::new();
     for frames in [0, 1, 0, 2, 1, 2, 0, 2, 1, 0] {
         levels.extend(case.frames(frames));
@@ -48,7 +48,7 @@ pub(super) fn cut(case: &mut Case) -> bool {
     let settings = EnvelopeParams {
         attack_curve: 0.75,
         decay_curve: 0.125,
-        ..PAPER
+        ..SAMPLE
     };
     let mut first = None;
     (0..=FRAMES).all(|at| {
@@ -64,7 +64,7 @@ pub(super) fn cut_long(case: &mut Case) -> bool {
     let settings = EnvelopeParams {
         attack: 16_390.0,
         attack_curve: 0.9,
-        ..PAPER
+        ..SAMPLE
     };
     let mut first = None;
     [0, 1, 16_385, 16_386, 16_387, FRAMES].iter().all(|&at| {

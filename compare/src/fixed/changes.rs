@@ -1,7 +1,7 @@
 //! Cases about settings and timing that change in the middle of a stage, or
 //! are refused.
 
-use super::{Case, NONE, PAPER, RATE_1000};
+use super::{Case, NONE, RATE_1000, SAMPLE};
 use crate::calls::Call;
 use crate::reference::{LIMIT, RATE, TIME};
 use crate::rust::envelope::{EnvelopeParams, Stage, Timing, Trigger};
@@ -67,7 +67,7 @@ pub(super) fn replanned_to_last(case: &mut Case) -> bool {
 }
 
 pub(super) fn untouched(case: &mut Case) -> bool {
-    case.note(PAPER);
+    case.note(SAMPLE);
     case.frames(4);
     case.set(EnvelopeParams {
         delay: 9.0,
@@ -75,7 +75,7 @@ pub(super) fn untouched(case: &mut Case) -> bool {
         decay_curve: 0.75,
         start: 0.125,
         legato_inverted: true,
-        ..PAPER
+        ..SAMPLE
     });
     // Only the present stage is compared, and the attack is as it was.
     case.stands(Stage::Attack, 0.5) && case.lead() == Some(7) && case.frames(2) == [0.5, 0.75]
@@ -85,11 +85,11 @@ pub(super) fn fresh_refused(case: &mut Case) -> bool {
     let (long, fast) = (LIMIT.next_up(), f64::from(LIMIT).next_up());
     let too_long = EnvelopeParams {
         release: long,
-        ..PAPER
+        ..SAMPLE
     };
     case.ask(Call::Fresh(too_long, Timing::new(fast)));
     let rate_first = case.refused(RATE);
-    case.ask(Call::Fresh(PAPER, Timing::new(f64::INFINITY)));
+    case.ask(Call::Fresh(SAMPLE, Timing::new(f64::INFINITY)));
     let rate = case.refused(RATE);
     case.fresh(too_long);
     let time = case.refused(TIME) && *case.envelope().params() == EnvelopeParams::AMP;
@@ -101,14 +101,14 @@ pub(super) fn fresh_refused(case: &mut Case) -> bool {
 }
 
 pub(super) fn changes_refused(case: &mut Case) -> bool {
-    case.note(PAPER);
+    case.note(SAMPLE);
     case.frames(3);
     let mut refused = true;
     for number in 0..5 {
         let mut settings = EnvelopeParams {
             attack: 9.0,
             sustain: 1.0,
-            ..PAPER
+            ..SAMPLE
         };
         let times = [
             &mut settings.delay,

@@ -1,12 +1,12 @@
 //! Cases about notes: the stages that a trigger or a release begins, and where
 //! an attack joins its curve.
 
-use super::{Case, NONE, PAPER};
+use super::{Case, NONE, SAMPLE};
 use crate::calls::Call;
 use crate::rust::envelope::{EnvelopeParams, Stage, StealRestart, TimeUnit, Timing, Trigger};
 
-pub(super) fn the_paper(case: &mut Case) -> bool {
-    case.note(PAPER);
+pub(super) fn the_sample(case: &mut Case) -> bool {
+    case.note(SAMPLE);
     let lead = case.lead();
     let levels = case.frames(10);
     lead == Some(9)
@@ -15,7 +15,7 @@ pub(super) fn the_paper(case: &mut Case) -> bool {
 }
 
 pub(super) fn one_by_one(case: &mut Case) -> bool {
-    case.note(PAPER);
+    case.note(SAMPLE);
     let mut stages = Vec::new();
     for frame in 0..14 {
         if frame == 11 {
@@ -206,7 +206,7 @@ pub(super) fn zero_times(case: &mut Case) -> bool {
             hold: time(2, 1.0),
             decay: time(3, 2.0),
             release: time(4, 2.0),
-            ..PAPER
+            ..SAMPLE
         });
         leads.extend(case.lead());
         case.frames(7);

@@ -1,7 +1,7 @@
 //! Cases about numbers at their edges: the least levels, the longest times,
 //! NaN, and halves.
 
-use super::{Case, NONE, PAPER, RATE_1000};
+use super::{Case, NONE, RATE_1000, SAMPLE};
 use crate::calls::Call;
 use crate::reference::{LIMIT, count};
 use crate::rust::envelope::{EnvelopeParams, Stage, TimeUnit, Timing, Trigger};
@@ -49,7 +49,7 @@ pub(super) fn at_the_limit(case: &mut Case) -> bool {
         hold: LIMIT,
         decay: LIMIT,
         release: LIMIT,
-        ..PAPER
+        ..SAMPLE
     };
     let timing = Timing::new(f64::from(LIMIT))
         .with_tempo(0.0)
@@ -80,7 +80,7 @@ pub(super) fn odd_numbers(case: &mut Case) -> bool {
         attack_curve: f32::INFINITY,
         start: -0.0,
         end: f32::from_bits(0x7f80_0001),
-        ..PAPER
+        ..SAMPLE
     };
     case.note(odd);
     let rises = case.envelope().stage() == Stage::Attack && case.lead() == Some(4);

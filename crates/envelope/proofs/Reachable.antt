@@ -18,7 +18,8 @@ use Rattle.lane.specs.Refusals.{timeOver, rateOver}
 use Rattle.lane.specs.Voices as Voices
 use Rattle.lane.proofs.Counts.{Counted, most, counted-limited}
 use Rattle.lane.proofs.Timed.{Unguarded, unguarded}
-use Rattle.lane.proofs.Sound.{Sound, holding, timed, trigger-params, release-params, reset-params, replan-params, frame-params, new-sound, trigger-sound, release-sound, reset-sound, replan-sound, setParams-sound, frame-sound}
+use Rattle.lane.proofs.Sound.{Sound, holding, timed, new-sound, trigger-sound, release-sound, reset-sound, replan-sound, setParams-sound, frame-sound}
+use Rattle.lane.proofs.Sound.{trigger-params, release-params, reset-params, replan-params, frame-params}
 use Rattle.lane.proofs.Lead.{Until, lead-exact}
 use Rattle.envelope.specs.declared.envelopes.Envelope.{Envelope}
 use Rattle.envelope.specs.Envelopes.{idle, blank, answer, fresh, stage, lead, frame, frames}

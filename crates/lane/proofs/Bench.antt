@@ -52,25 +52,16 @@ struck p = trigger clock New (new p)
 abbrev decaying : Voice
 decaying = frames 3 clock (struck (settings zero (fin false 1 (pos 2))))
 
--- Count 16,385 has segments 16,384 and 1.
-pub segments :
-    let l = struck (settings (fin false 16385 (pos 0)) zero) .lane in
-    (l .stage ≡ Attack) × (l .«seg_len» ≡ 16384) × (advance clock l .lane .stage ≡ Attack) × (advance clock l .lane .«seg_len» ≡ 1)
-unfolding new trigger leavesAlone noteLevel enter find findFrom settle begin startSegment spec join joinAttack advance moved samples product seconds max clamp unit isNan bend timeAt lt le eq add sub mul div round roundU64 ofBits ofInt
-segments = (refl, refl, refl, refl)
-
--- A straight attack of 4 from start 0, joined at 0.375, begins at 2.
-pub joined :
+-- Count 16,385 has segments 16,384 and 1; a straight attack of 4 from start 0, joined at 0.375, begins at 2; a decay of 4, replanned after 3 samples
+-- to 3, ends there, and to 5 runs 2 more.
+pub table :
+    let long = struck (settings (fin false 16385 (pos 0)) zero) .lane in
     let p = settings (fin false 1 (pos 2)) zero in
-    let level = fin false 3 (negsuc 2) in
-    joinAttack p level (spec p Attack clock level) .pos ≡ 2
-unfolding spec joinAttack samples product seconds max clamp unit isNan bend timeAt lt le eq add sub mul div round roundU64 ofBits ofInt
-joined = refl
-
--- A decay of 4, replanned after 3 samples to 3, ends there; to 5, it runs 2 more.
-pub replanned :
+    let x = fin false 3 (negsuc 2) in
     let shorter = setParams clock (settings zero (fin false 3 (pos 0))) decaying in
     let longer = setParams clock (settings zero (fin false 5 (pos 0))) decaying in
-    (decaying .lane .stage ≡ Decay) × (shorter .lane .stage ≡ Sustain) × (longer .lane .stage ≡ Decay) × (rest longer ≡ 2)
+    (long .stage ≡ Attack) × (long .«seg_len» ≡ 16384) × (advance clock long .lane .stage ≡ Attack) × (advance clock long .lane .«seg_len» ≡ 1)
+    × (joinAttack p x (spec p Attack clock x) .pos ≡ 2)
+    × (decaying .lane .stage ≡ Decay) × (shorter .lane .stage ≡ Sustain) × (longer .lane .stage ≡ Decay) × (rest longer ≡ 2)
 unfolding new trigger leavesAlone noteLevel enter find findFrom settle begin hold startSegment spec join joinAttack advance moved samples product seconds max clamp unit isNan bend timeAt lt le eq add sub mul div round roundU64 ofBits ofInt frame stepped nextU setParams withParams replan elapsed same rest segment straight bent at progress level isStraight narrow neg
-replanned = (refl, refl, refl, refl)
+table = (refl, refl, refl, refl, refl, refl, refl, refl, refl)

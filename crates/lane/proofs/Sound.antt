@@ -30,10 +30,6 @@ pub data Sound (B : ℕ) (v : Voice) : Type 0 where
   holding : holds (v .lane .stage) ≡ true → v .seg .left ≡ untimed → Sound B v
   timed : holds (v .lane .stage) ≡ false → Timed B v → Sound B v
 
-pub sound-more : (B C : ℕ) → B ≤ C → (v : Voice) → Sound B v → Sound C v
-sound-more B C h v (holding e u) = holding e u
-sound-more B C h v (timed e q) = timed e (omega arith)
-
 cond-sound : (B : ℕ) (x : Bool) (v w : Voice) → Sound B v → Sound B w → Sound B (cond x v w)
 cond-sound B true v w p q = p
 cond-sound B false v w p q = q

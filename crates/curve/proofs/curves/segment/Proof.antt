@@ -55,9 +55,41 @@ narrow-requires-3 c κs = search needs
 returns-2 : tie.Need-returns-2
 unfolding segment straight ofBits
 returns-2 c =
-    let moves = simp (c .before .before .before .before .before .before .before .before .before .before .before .before .before .widen2 .ensures, c .before .before .before .before .before .before .before .before .before .before .before .before .before .before .widen .ensures) at (c .before .before .before .before .before .before .before .before .before .before .before .before .if1 .left) in
-    let kind = simp (c .before .before .before .before .is-straight .ensures, c .before .before .before .before .before .before .narrow .ensures, c .before .before .before .before .before .before .before .exp .ensures, c .before .before .before .before .before .before .before .before .at2 .ensures, c .before .before .before .before .before .before .before .before .before .saturating-add .ensures, c .before .before .before .before .before .before .before .before .before .before .at .ensures, c .before .before .before .before .before .before .before .before .before .before .before .of-u64 .ensures) at (c .before .before .before .if2 .taken) in
-    simp (c .narrow3 .ensures, c .before .narrow2 .ensures, moves, kind, c .before .before .before .before .before .before .narrow .ensures, c .before .before .before .before .before .before .before .exp .ensures, c .before .before .before .before .before .before .before .before .at2 .ensures, c .before .before .before .before .before .before .before .before .before .saturating-add .ensures, c .before .before .before .before .before .before .before .before .before .before .at .ensures, c .before .before .before .before .before .before .before .before .before .before .before .of-u64 .ensures, c .before .before .before .before .before .before .before .before .before .before .before .before .before .widen2 .ensures, c .before .before .before .before .before .before .before .before .before .before .before .before .before .before .widen .ensures)
+    let c₃ = c .before .before .before in
+    let c₄ = c₃ .before in
+    let c₆ = c₄ .before .before in
+    let c₇ = c₆ .before in
+    let c₈ = c₇ .before in
+    let c₉ = c₈ .before in
+    let c₁₀ = c₉ .before in
+    let c₁₁ = c₁₀ .before in
+    let c₁₂ = c₁₁ .before in
+    let c₁₃ = c₁₂ .before in
+    let c₁₄ = c₁₃ .before in
+    let moves = simp (c₁₃ .widen2 .ensures, c₁₄ .widen .ensures) at (c₁₂ .if1 .left) in
+    let kind = simp (
+      c₄ .is-straight .ensures,
+      c₆ .narrow .ensures,
+      c₇ .exp .ensures,
+      c₈ .at2 .ensures,
+      c₉ .saturating-add .ensures,
+      c₁₀ .at .ensures,
+      c₁₁ .of-u64 .ensures,
+    ) at (c₃ .if2 .taken) in
+    simp (
+      c .narrow3 .ensures,
+      c .before .narrow2 .ensures,
+      moves,
+      kind,
+      c₆ .narrow .ensures,
+      c₇ .exp .ensures,
+      c₈ .at2 .ensures,
+      c₉ .saturating-add .ensures,
+      c₁₀ .at .ensures,
+      c₁₁ .of-u64 .ensures,
+      c₁₃ .widen2 .ensures,
+      c₁₄ .widen .ensures,
+    )
 
 widen-requires-3 : tie.Need-widen-requires-3
 widen-requires-3 c κs = search needs
@@ -74,9 +106,45 @@ narrow-requires-5 c κs = search needs
 returns-3 : tie.Need-returns-3
 unfolding segment bent ofBits
 returns-3 c =
-    let moves = simp (c .before .before .before .before .before .before .before .before .before .before .before .before .before .before .widen2 .ensures, c .before .before .before .before .before .before .before .before .before .before .before .before .before .before .before .widen .ensures) at (c .before .before .before .before .before .before .before .before .before .before .before .before .before .if1 .left) in
-    let kind = simp (c .before .before .before .before .before .is-straight .ensures, c .before .before .before .before .before .before .before .narrow .ensures, c .before .before .before .before .before .before .before .before .exp .ensures, c .before .before .before .before .before .before .before .before .before .at2 .ensures, c .before .before .before .before .before .before .before .before .before .before .saturating-add .ensures, c .before .before .before .before .before .before .before .before .before .before .before .at .ensures, c .before .before .before .before .before .before .before .before .before .before .before .before .of-u64 .ensures) at (c .before .before .before .before .if2 .left) in
-    simp (c .narrow5 .ensures, c .before .narrow4 .ensures, c .before .before .powi .ensures, c .before .before .before .widen3 .ensures, moves, kind, c .before .before .before .before .before .before .before .narrow .ensures, c .before .before .before .before .before .before .before .before .exp .ensures, c .before .before .before .before .before .before .before .before .before .at2 .ensures, c .before .before .before .before .before .before .before .before .before .before .saturating-add .ensures, c .before .before .before .before .before .before .before .before .before .before .before .at .ensures, c .before .before .before .before .before .before .before .before .before .before .before .before .of-u64 .ensures, c .before .before .before .before .before .before .before .before .before .before .before .before .before .before .widen2 .ensures, c .before .before .before .before .before .before .before .before .before .before .before .before .before .before .before .widen .ensures)
+    let c₂ = c .before .before in
+    let c₃ = c₂ .before in
+    let c₄ = c₃ .before in
+    let c₅ = c₄ .before in
+    let c₇ = c₅ .before .before in
+    let c₈ = c₇ .before in
+    let c₉ = c₈ .before in
+    let c₁₀ = c₉ .before in
+    let c₁₁ = c₁₀ .before in
+    let c₁₂ = c₁₁ .before in
+    let c₁₃ = c₁₂ .before in
+    let c₁₄ = c₁₃ .before in
+    let c₁₅ = c₁₄ .before in
+    let moves = simp (c₁₄ .widen2 .ensures, c₁₅ .widen .ensures) at (c₁₃ .if1 .left) in
+    let kind = simp (
+      c₅ .is-straight .ensures,
+      c₇ .narrow .ensures,
+      c₈ .exp .ensures,
+      c₉ .at2 .ensures,
+      c₁₀ .saturating-add .ensures,
+      c₁₁ .at .ensures,
+      c₁₂ .of-u64 .ensures,
+    ) at (c₄ .if2 .left) in
+    simp (
+      c .narrow5 .ensures,
+      c .before .narrow4 .ensures,
+      c₂ .powi .ensures,
+      c₃ .widen3 .ensures,
+      moves,
+      kind,
+      c₇ .narrow .ensures,
+      c₈ .exp .ensures,
+      c₉ .at2 .ensures,
+      c₁₀ .saturating-add .ensures,
+      c₁₁ .at .ensures,
+      c₁₂ .of-u64 .ensures,
+      c₁₄ .widen2 .ensures,
+      c₁₅ .widen .ensures,
+    )
 
 pub segment-spec : {M : Type 1} → statement M
 segment-spec =

@@ -23,8 +23,11 @@ returns c = simp (c .if1 .taken, c .before .clamp .ensures)
 returns-2 : tie.Need-returns-2
 unfolding timeAt ofBits
 returns-2 c =
+    let c₂ = c .before .before in
+    let c₃ = c₂ .before in
+    let c₄ = c₃ .before in
     simp
-    (c .clamp2 .ensures, c .before .ln-1p .ensures, c .before .before .exp-m1 .ensures, c .before .before .before .if1 .left, c .before .before .before .before .clamp .ensures)
+    (c .clamp2 .ensures, c .before .ln-1p .ensures, c₂ .exp-m1 .ensures, c₃ .if1 .left, c₄ .clamp .ensures)
 
 pub time-at-spec : {M : Type 1} → statement M
 time-at-spec =

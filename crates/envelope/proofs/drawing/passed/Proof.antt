@@ -19,7 +19,9 @@ sub-rest : tie.Need-sub-rest
 sub-rest c = search needs
 
 returns-2 : tie.Need-returns-2
-returns-2 c = let a = c .before .before .before .before .args in rw (c .before .before .before .before .pre .1) (sym (frames-inside (a .timing) (a .run) (a .voice) (c .before .if2 .taken) (omega arith)))
+returns-2 c =
+    let c₄ = c .before .before .before .before in
+    let a = c₄ .args in rw (c₄ .pre .1) (sym (frames-inside (a .timing) (a .run) (a .voice) (c .before .if2 .taken) (omega arith)))
 
 advance-requires : tie.Need-advance-requires
 advance-requires c κs = search needs

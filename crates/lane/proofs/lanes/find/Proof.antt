@@ -29,29 +29,48 @@ next-requires : tie.Need-next-requires Inv-loop μ-loop
 next-requires c κs = search needs
 
 loop-less : tie.Need-loop-less Inv-loop μ-loop
-loop-less c = rw (c .next .ensures, timed-next (c .before .before .before .before .before .before .before .before .loop .stage) (sym (c .before .before .before .before .before .before .holds .ensures) ∙ c .before .before .before .before .before .if1 .left)) (omega arith)
+loop-less c =
+    let c₅ = c .before .before .before .before .before in
+    let c₆ = c₅ .before in
+    let c₈ = c₆ .before .before in
+    rw (c .next .ensures, timed-next (c₈ .loop .stage) (sym (c₆ .holds .ensures) ∙ c₅ .if1 .left)) (omega arith)
 
 loop-again : tie.Need-loop-again Inv-loop μ-loop
 loop-again c =
-    let a = c .before .before .before .before .before .before .before .before .before .args in
-    let l = c .before .before .before .before .before .before .before .before .loop in
-    let h = sym (c .before .before .before .before .before .before .holds .ensures) ∙ c .before .before .before .before .before .if1 .left in
-    let k = simp (c .before .before .before .before .join .ensures, c .before .before .before .before .before .before .before .spec-of .ensures) at (c .before .if2 .left) in
-    rw (c .next .ensures, c .before .before .before .before .before .before .before .spec-of .ensures) (sym (find-skips (a .p) (a .timing) (l .stage) (l .level) h k) ∙ l .inv)
+    let c₄ = c .before .before .before .before in
+    let c₅ = c₄ .before in
+    let c₆ = c₅ .before in
+    let c₇ = c₆ .before in
+    let c₈ = c₇ .before in
+    let c₉ = c₈ .before in
+    let a = c₉ .args in
+    let l = c₈ .loop in
+    let h = sym (c₆ .holds .ensures) ∙ c₅ .if1 .left in
+    let k = simp (c₄ .join .ensures, c₇ .spec-of .ensures) at (c .before .if2 .left) in
+    rw (c .next .ensures, c₇ .spec-of .ensures) (sym (find-skips (a .p) (a .timing) (l .stage) (l .level) h k) ∙ l .inv)
 
 returns : tie.Need-returns Inv-loop μ-loop
 returns c =
-    let a = c .before .before .before .before .args in
-    let l = c .before .before .before .loop in
-    rw (c .before .before .spec-of .ensures) (sym (find-holds (a .p) (a .timing) (l .stage) (l .level) (sym (c .before .holds .ensures) ∙ c .if1 .taken)) ∙ l .inv)
+    let c₂ = c .before .before in
+    let c₃ = c₂ .before in
+    let c₄ = c₃ .before in
+    let a = c₄ .args in
+    let l = c₃ .loop in
+    rw (c₂ .spec-of .ensures) (sym (find-holds (a .p) (a .timing) (l .stage) (l .level) (sym (c .before .holds .ensures) ∙ c .if1 .taken)) ∙ l .inv)
 
 returns-2 : tie.Need-returns-2 Inv-loop μ-loop
 returns-2 c =
-    let a = c .before .before .before .before .before .before .before .before .args in
-    let l = c .before .before .before .before .before .before .before .loop in
-    let h = sym (c .before .before .before .before .before .holds .ensures) ∙ c .before .before .before .before .if1 .left in
-    let k = simp (c .before .before .before .join .ensures, c .before .before .before .before .before .before .spec-of .ensures) at (c .if2 .taken) in
-    rw (c .before .before .before .join .ensures, c .before .before .before .before .before .before .spec-of .ensures) (sym (find-timed (a .p) (a .timing) (l .stage) (l .level) h k) ∙ l .inv)
+    let c₃ = c .before .before .before in
+    let c₄ = c₃ .before in
+    let c₅ = c₄ .before in
+    let c₆ = c₅ .before in
+    let c₇ = c₆ .before in
+    let c₈ = c₇ .before in
+    let a = c₈ .args in
+    let l = c₇ .loop in
+    let h = sym (c₅ .holds .ensures) ∙ c₄ .if1 .left in
+    let k = simp (c₃ .join .ensures, c₆ .spec-of .ensures) at (c .if2 .taken) in
+    rw (c₃ .join .ensures, c₆ .spec-of .ensures) (sym (find-timed (a .p) (a .timing) (l .stage) (l .level) h k) ∙ l .inv)
 
 pub find-spec : {M : Type 1} → statement M
 find-spec =

@@ -17,7 +17,10 @@ returns-2 c = simp (simp (c .before .before .unit .ensures) at (c .before .if1 .
 
 returns-3 : tie.Need-returns-3
 unfolding joinAttack ofBits
-returns-3 c = simp (simp (c .before .before .before .unit .ensures) at (c .before .before .if1 .left), simp (c .before .before .before .unit .ensures) at (c .before .if2 .left), c .if3 .taken)
+returns-3 c =
+    let c₂ = c .before .before in
+    let c₃ = c₂ .before in
+    simp (simp (c₃ .unit .ensures) at (c₂ .if1 .left), simp (c₃ .unit .ensures) at (c .before .if2 .left), c .if3 .taken)
 
 widen-requires : tie.Need-widen-requires
 widen-requires c κs = search needs
@@ -33,7 +36,23 @@ round-to-u64-requires c κs = search needs
 
 returns-4 : tie.Need-returns-4
 unfolding joinAttack ofBits
-returns-4 c = simp (c .round-to-u64 .ensures, c .before .of-u64 .ensures, c .before .before .time-at .ensures, c .before .before .before .widen .ensures, c .before .before .before .before .before .before .before .unit .ensures, simp (c .before .before .before .before .before .before .before .unit .ensures) at (c .before .before .before .before .before .before .if1 .left), simp (c .before .before .before .before .before .before .before .unit .ensures) at (c .before .before .before .before .before .if2 .left), c .before .before .before .before .if3 .left)
+returns-4 c =
+    let c₂ = c .before .before in
+    let c₃ = c₂ .before in
+    let c₄ = c₃ .before in
+    let c₅ = c₄ .before in
+    let c₆ = c₅ .before in
+    let c₇ = c₆ .before in
+    simp (
+      c .round-to-u64 .ensures,
+      c .before .of-u64 .ensures,
+      c₂ .time-at .ensures,
+      c₃ .widen .ensures,
+      c₇ .unit .ensures,
+      simp (c₇ .unit .ensures) at (c₆ .if1 .left),
+      simp (c₇ .unit .ensures) at (c₅ .if2 .left),
+      c₄ .if3 .left,
+    )
 
 pub join-attack-spec : {M : Type 1} → statement M
 join-attack-spec =

@@ -79,7 +79,10 @@ returns-4 c = simp (c .samples3 .ensures, c .before .enum-told4 .given .1)
 
 returns-5 : tie.Need-returns-5
 unfolding spec ofBits
-returns-5 c = simp (c .before .before .samples4 .ensures, c .before .unit2 .ensures, c .bend2 .ensures, c .before .before .before .enum-told5 .given .1)
+returns-5 c =
+    let c₂ = c .before .before in
+    let c₃ = c₂ .before in
+    simp (c₂ .samples4 .ensures, c .before .unit2 .ensures, c .bend2 .ensures, c₃ .enum-told5 .given .1)
 
 returns-6 : tie.Need-returns-6
 unfolding spec ofBits
@@ -87,7 +90,10 @@ returns-6 c = simp (c .unit3 .ensures, c .before .enum-told6 .given .1)
 
 returns-7 : tie.Need-returns-7
 unfolding spec ofBits
-returns-7 c = simp (c .before .before .samples5 .ensures, c .before .unit4 .ensures, c .bend3 .ensures, c .before .before .before .enum-told7 .given .1)
+returns-7 c =
+    let c₂ = c .before .before in
+    let c₃ = c₂ .before in
+    simp (c₂ .samples5 .ensures, c .before .unit4 .ensures, c .bend3 .ensures, c₃ .enum-told7 .given .1)
 
 pub spec-of-spec : {M : Type 1} → statement M
 spec-of-spec =

@@ -21,14 +21,20 @@ refused-timing-requires c κs = search needs
 
 returns : tie.Need-returns
 unfolding fresh timing
-returns c = some (rateOver (c .before .before .args .timing)) (params (c .before .before .args .p)) (c .before .refused-timing .result) (c .before .refused-timing .ensures) (c .if1 .taken)
+returns c =
+    let c₂ = c .before .before in
+    some (rateOver (c₂ .args .timing)) (params (c₂ .args .p)) (c .before .refused-timing .result) (c .before .refused-timing .ensures) (c .if1 .taken)
 
 refused-params-requires : tie.Need-refused-params-requires
 refused-params-requires c κs = search needs
 
 returns-2 : tie.Need-returns-2
 unfolding fresh timing
-returns-2 c = c .refused-params .ensures ∙ none (rateOver (c .before .before .before .args .timing)) (params (c .before .before .before .args .p)) (c .before .before .refused-timing .result) (c .before .before .refused-timing .ensures) (c .before .if1 .left)
+returns-2 c =
+    let c₂ = c .before .before in
+    let c₃ = c₂ .before in
+    c .refused-params .ensures ∙ none (rateOver (c₃ .args .timing)) (params (c₃ .args .p)) (c₂ .refused-timing .result)
+    (c₂ .refused-timing .ensures) (c .before .if1 .left)
 
 pub refused-fresh-spec : {M : Type 1} → statement M
 refused-fresh-spec =

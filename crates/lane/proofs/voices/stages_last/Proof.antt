@@ -46,23 +46,37 @@ next-requires : tie.Need-next-requires Inv-loop μ-loop
 next-requires c κs = search needs
 
 loop-less : tie.Need-loop-less Inv-loop μ-loop
-loop-less c = rw (c .next .ensures, timed-next (c .before .before .before .before .before .before .before .loop .stage) (sym (c .before .before .before .before .before .before .holds .ensures) ∙ not-true (c .before .before .before .before .before .before .holds .result) (c .before .before .before .before .before .if1 .taken))) (omega arith)
+loop-less c =
+    let c₅ = c .before .before .before .before .before in
+    let c₆ = c₅ .before in
+    let c₇ = c₆ .before in
+    rw (c .next .ensures, timed-next (c₇ .loop .stage) (sym (c₆ .holds .ensures) ∙ not-true (c₆ .holds .result) (c₅ .if1 .taken))) (omega arith)
 
 loop-again : tie.Need-loop-again Inv-loop μ-loop
 unfolding lasts
 loop-again c =
-    let a = c .before .before .before .before .before .before .before .before .args in
-    let l = c .before .before .before .before .before .before .before .loop in
-    let h = sym (c .before .before .before .before .before .before .holds .ensures) ∙ not-true (c .before .before .before .before .before .before .holds .result) (c .before .before .before .before .before .if1 .taken) in
+    let c₂ = c .before .before in
+    let c₃ = c₂ .before in
+    let c₄ = c₃ .before in
+    let c₅ = c₄ .before in
+    let c₆ = c₅ .before in
+    let c₇ = c₆ .before in
+    let c₈ = c₇ .before in
+    let a = c₈ .args in
+    let l = c₇ .loop in
+    let h = sym (c₆ .holds .ensures) ∙ not-true (c₆ .holds .result) (c₅ .if1 .taken) in
     let e = last-timed (a .p) (a .timing) (l .stage) (l .level) h in
-    rw (c .next .ensures, c .before .saturating-add .ensures, c .before .before .saturating-sub .ensures, c .before .before .before .join .ensures, c .before .before .before .before .spec-of .ensures)
+    rw (c .next .ensures, c .before .saturating-add .ensures, c₂ .saturating-sub .ensures, c₃ .join .ensures, c₄ .spec-of .ensures)
     (omega arith, more (l .sum) _ _ ∙ rw (sym e) (l .inv .1))
 
 returns : tie.Need-returns Inv-loop μ-loop
 returns c =
-    let a = c .before .before .before .args in
-    let l = c .before .before .loop in
-    let e = last-holds (a .p) (a .timing) (l .stage) (l .level) (sym (c .before .holds .ensures) ∙ not-false (c .before .holds .result) (c .if1 .left)) in
+    let c₂ = c .before .before in
+    let c₃ = c₂ .before in
+    let a = c₃ .args in
+    let l = c₂ .loop in
+    let e = last-holds (a .p) (a .timing) (l .stage) (l .level) (sym (c .before .holds .ensures) ∙ not-false (c .before .holds .result)
+    (c .if1 .left)) in
     within (l .sum) _ e (l .inv .0) ∙ l .inv .1
 
 pub stages-last-spec : {M : Type 1} → statement M

@@ -37,28 +37,40 @@ draw-requires : tie.Need-draw-requires Inv-loop μ-loop
 draw-requires c κs = search needs
 
 passed-requires : tie.Need-passed-requires Inv-loop μ-loop
-passed-requires c κs = ((c .before .before .before .before .run-length .ensures .0, c .before .before .before .before .run-length .ensures .2), c .before .before .draw .ensures .1)
+passed-requires c κs =
+    let c₂ = c .before .before in
+    let c₄ = c₂ .before .before in
+    ((c₄ .run-length .ensures .0, c₄ .run-length .ensures .2), c₂ .draw .ensures .1)
 
 add-done : tie.Need-add-done Inv-loop μ-loop
-add-done c = record { fits = omega (arith, c .before .before .before .before .before .run-length .ensures .1, c .before .before .before .before .before .before .before .loop .inv .0, c .before .before .before .before .before .before .before .loop .inv .1, c .before .before .before .before .before .before .before .before .before .before .before .good) }
+add-done c =
+    let c₅ = c .before .before .before .before .before in
+    let c₇ = c₅ .before .before in
+    let c₁₁ = c₇ .before .before .before .before in
+    record { fits = omega (arith, c₅ .run-length .ensures .1, c₇ .loop .inv .0, c₇ .loop .inv .1, c₁₁ .good) }
 
 loop-less : tie.Need-loop-less Inv-loop μ-loop
 loop-less c = search needs
 
 loop-again : tie.Need-loop-again Inv-loop μ-loop
 loop-again c =
-    let a = c .before .before .before .before .before .before .before .before .before .before .before .args in
+    let c₃ = c .before .before .before in
+    let c₅ = c₃ .before .before in
+    let c₇ = c₅ .before .before in
+    let c₁₁ = c₇ .before .before .before .before in
+    let a = c₁₁ .args in
     let t = a .self .timing in
-    let l = c .before .before .before .before .before .before .before .loop in
-    let run = c .before .before .before .before .before .run-length in
-    let drew = c .before .before .before .draw in
+    let l = c₇ .loop in
+    let run = c₅ .run-length in
+    let drew = c₃ .draw in
     let e : length (drew .last .0) ≡ length (l .out) = drew .ensures .0 .same in (
       omega (arith, run .ensures .1, l .inv .0, e),
       e ∙ l .inv .1,
       c .passed .ensures ∙ ap (frames (run .result) t) (l .inv .2) ∙ sym (frames-add t (l .done) (run .result) (a .self .voice)),
       filled-on nan (levelAt t (a .self .voice)) 0 (λ j. levelAfter (l .voice .seg) (j - l .done)) (l .done) (l .done + run .result)
           (a .out .now) (l .out) (drew .last .0) (omega arith) (omega arith)
-          (λ j p q. run-levels t (a .self .voice) (l .voice) (l .done) (run .result) j (l .inv .2) (run .ensures .2) p q) (l .inv .3) (drew .ensures .0),
+          (λ j p q. run-levels t (a .self .voice) (l .voice) (l .done) (run .result) j (l .inv .2) (run .ensures .2) p q) (l .inv .3)
+          (drew .ensures .0),
     )
 
 same-length : tie.Need-same-length Inv-loop μ-loop

@@ -16,7 +16,10 @@ new-requires-2 c κs = search needs
 
 returns : tie.Need-returns
 unfolding ofBits
-returns c = rw (sym (c .before .before .before .refused-fresh .ensures), ne-eqb (c .before .before .before .refused-fresh .result) 0 (c .before .before .if1 .taken), c .before .new .ensures, c .new2 .ensures)
+returns c =
+    let c₂ = c .before .before in
+    let c₃ = c₂ .before in
+    rw (sym (c₃ .refused-fresh .ensures), ne-eqb (c₃ .refused-fresh .result) 0 (c₂ .if1 .taken), c .before .new .ensures, c .new2 .ensures)
 
 new-requires-3 : tie.Need-new-requires-3
 new-requires-3 c κs = search needs

@@ -15,7 +15,9 @@ start-segment-requires c κs = search needs
 
 returns : tie.Need-returns
 unfolding advance moved
-returns c = simp (c .start-segment .ensures, c .before .before .before .saturating-add .ensures, lt-ltb _ _ (simp (c .before .before .before .saturating-add .ensures) at (c .before .if1 .taken)))
+returns c =
+    let c₃ = c .before .before .before in
+    simp (c .start-segment .ensures, c₃ .saturating-add .ensures, lt-ltb _ _ (simp (c₃ .saturating-add .ensures) at (c .before .if1 .taken)))
 
 next-requires : tie.Need-next-requires
 next-requires c κs = search needs
@@ -25,7 +27,15 @@ enter-requires c κs = search needs
 
 returns-2 : tie.Need-returns-2
 unfolding advance moved
-returns-2 c = simp (c .enter .ensures, c .before .next .ensures, c .before .before .before .before .saturating-add .ensures, le-ltb _ _ (simp (c .before .before .before .before .saturating-add .ensures) at (c .before .before .if1 .left)))
+returns-2 c =
+    let c₂ = c .before .before in
+    let c₄ = c₂ .before .before in
+    simp (
+      c .enter .ensures,
+      c .before .next .ensures,
+      c₄ .saturating-add .ensures,
+      le-ltb _ _ (simp (c₄ .saturating-add .ensures) at (c₂ .if1 .left)),
+    )
 
 pub advance-spec : {M : Type 1} → statement M
 advance-spec =

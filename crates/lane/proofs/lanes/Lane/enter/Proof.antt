@@ -14,14 +14,20 @@ hold-requires c κs = search needs
 
 returns : tie.Need-returns
 unfolding enter settle
-returns c = simp (c .hold .ensures, simp (c .before .before .holds .ensures, c .before .before .before .before .find .ensures) at (c .before .if1 .taken), c .before .before .before .before .find .ensures)
+returns c =
+    let c₂ = c .before .before in
+    let c₄ = c₂ .before .before in
+    simp (c .hold .ensures, simp (c₂ .holds .ensures, c₄ .find .ensures) at (c .before .if1 .taken), c₄ .find .ensures)
 
 begin-requires : tie.Need-begin-requires
 begin-requires c κs = search needs
 
 returns-2 : tie.Need-returns-2
 unfolding enter settle
-returns-2 c = simp (c .begin .ensures, simp (c .before .before .holds .ensures, c .before .before .before .before .find .ensures) at (c .before .if1 .left), c .before .before .before .before .find .ensures)
+returns-2 c =
+    let c₂ = c .before .before in
+    let c₄ = c₂ .before .before in
+    simp (c .begin .ensures, simp (c₂ .holds .ensures, c₄ .find .ensures) at (c .before .if1 .left), c₄ .find .ensures)
 
 pub enter-spec : {M : Type 1} → statement M
 enter-spec =

@@ -18,7 +18,10 @@ advance-requires c κs = search needs
 
 returns-2 : tie.Need-returns-2
 unfolding frame
-returns-2 c = let s = c .before .before .before .args .self .seg .left in simp (c .advance .ensures, ne-eqb s 4294967295 (c .before .before .if1 .left), eq-eqb (s - 1) 0 (omega arith))
+returns-2 c =
+    let c₂ = c .before .before in
+    let c₃ = c₂ .before in
+    let s = c₃ .args .self .seg .left in simp (c .advance .ensures, ne-eqb s 4294967295 (c₂ .if1 .left), eq-eqb (s - 1) 0 (omega arith))
 
 sub-stepped : tie.Need-sub-stepped
 sub-stepped c = search needs
@@ -28,7 +31,10 @@ stepped-requires-2 c κs = search needs
 
 returns-3 : tie.Need-returns-3
 unfolding frame
-returns-3 c = let s = c .before .before .before .args .self .seg .left in simp (c .stepped2 .ensures, ne-eqb s 4294967295 (c .before .before .if1 .left), ne-eqb (s - 1) 0 (λ e. omega arith))
+returns-3 c =
+    let c₂ = c .before .before in
+    let c₃ = c₂ .before in
+    let s = c₃ .args .self .seg .left in simp (c .stepped2 .ensures, ne-eqb s 4294967295 (c₂ .if1 .left), ne-eqb (s - 1) 0 (λ e. omega arith))
 
 pub frame-spec : {M : Type 1} → statement M
 frame-spec =

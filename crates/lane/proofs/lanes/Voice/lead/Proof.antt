@@ -38,7 +38,22 @@ saturating-add-requires-2 c κs = search needs
 
 returns-2 : tie.Need-returns-2
 unfolding lead rest
-returns-2 c = simp (simp (c .before .before .before .before .before .before .before .before .before .leads-up .ensures) at (not-false (c .before .before .before .before .before .before .before .before .before .leads-up .result) (c .before .before .before .before .before .before .before .before .if1 .left)), c .saturating-add2 .ensures, c .before .stages-last .ensures, c .before .before .next .ensures, c .before .before .before .saturating-add .ensures, c .before .before .before .before .before .saturating-sub2 .ensures, c .before .before .before .before .before .before .before .saturating-sub .ensures) (omega arith)
+returns-2 c =
+    let c₂ = c .before .before in
+    let c₃ = c₂ .before in
+    let c₅ = c₃ .before .before in
+    let c₇ = c₅ .before .before in
+    let c₈ = c₇ .before in
+    let c₉ = c₈ .before in
+    simp (
+      simp (c₉ .leads-up .ensures) at (not-false (c₉ .leads-up .result) (c₈ .if1 .left)),
+      c .saturating-add2 .ensures,
+      c .before .stages-last .ensures,
+      c₂ .next .ensures,
+      c₃ .saturating-add .ensures,
+      c₅ .saturating-sub2 .ensures,
+      c₇ .saturating-sub .ensures,
+    ) (omega arith)
 
 pub lead-spec : {M : Type 1} → statement M
 lead-spec =

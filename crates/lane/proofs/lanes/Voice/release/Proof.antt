@@ -18,7 +18,10 @@ enter-requires c κs = search needs
 
 returns-2 : tie.Need-returns-2
 unfolding release
-returns-2 c = simp (c .enter .ensures, c .before .level .ensures, simp (c .before .before .before .is-released .ensures) at (c .before .before .if1 .left))
+returns-2 c =
+    let c₂ = c .before .before in
+    let c₃ = c₂ .before in
+    simp (c .enter .ensures, c .before .level .ensures, simp (c₃ .is-released .ensures) at (c₂ .if1 .left))
 
 pub release-spec : {M : Type 1} → statement M
 release-spec =

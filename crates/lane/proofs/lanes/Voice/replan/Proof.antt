@@ -22,7 +22,17 @@ hold-requires c κs = search needs
 
 returns-2 : tie.Need-returns-2
 unfolding replan
-returns-2 c = simp (c .hold .ensures, c .before .before .before .before .before .spec-of .ensures, simp (c .before .before .before .before .same-spec .ensures, c .before .before .before .before .before .spec-of .ensures) at (c .before .before .before .if1 .left), simp (c .before .before .holds .ensures) at (c .before .if2 .taken))
+returns-2 c =
+    let c₂ = c .before .before in
+    let c₃ = c₂ .before in
+    let c₄ = c₃ .before in
+    let c₅ = c₄ .before in
+    simp (
+      c .hold .ensures,
+      c₅ .spec-of .ensures,
+      simp (c₄ .same-spec .ensures, c₅ .spec-of .ensures) at (c₃ .if1 .left),
+      simp (c₂ .holds .ensures) at (c .before .if2 .taken),
+    )
 
 elapsed-requires : tie.Need-elapsed-requires
 elapsed-requires c κs = search needs
@@ -35,7 +45,22 @@ enter-requires c κs = search needs
 
 returns-3 : tie.Need-returns-3
 unfolding replan elapsed
-returns-3 c = simp (c .enter .ensures, c .before .next .ensures, c .before .before .before .before .before .before .before .before .before .spec-of .ensures, simp (c .before .before .before .before .before .before .before .before .same-spec .ensures, c .before .before .before .before .before .before .before .before .before .spec-of .ensures) at (c .before .before .before .before .before .before .before .if1 .left), simp (c .before .before .before .before .before .before .holds .ensures) at (c .before .before .before .before .before .if2 .left), le-leb _ _ (simp (c .before .before .before .before .elapsed .ensures, c .before .before .before .before .before .before .before .before .before .spec-of .ensures) at (c .before .before .if3 .taken)))
+returns-3 c =
+    let c₂ = c .before .before in
+    let c₄ = c₂ .before .before in
+    let c₅ = c₄ .before in
+    let c₆ = c₅ .before in
+    let c₇ = c₆ .before in
+    let c₈ = c₇ .before in
+    let c₉ = c₈ .before in
+    simp (
+      c .enter .ensures,
+      c .before .next .ensures,
+      c₉ .spec-of .ensures,
+      simp (c₈ .same-spec .ensures, c₉ .spec-of .ensures) at (c₇ .if1 .left),
+      simp (c₆ .holds .ensures) at (c₅ .if2 .left),
+      le-leb _ _ (simp (c₄ .elapsed .ensures, c₉ .spec-of .ensures) at (c₂ .if3 .taken)),
+    )
 
 level-requires : tie.Need-level-requires
 level-requires c κs = search needs
@@ -48,7 +73,30 @@ begin-requires c κs = search needs
 
 returns-4 : tie.Need-returns-4
 unfolding replan elapsed
-returns-4 c = simp (c .begin .ensures, c .before .before .level .ensures, c .before .before .before .before .before .before .before .before .before .before .spec-of .ensures, c .before .before .before .before .before .elapsed .ensures, simp (c .before .before .before .before .before .before .before .before .before .same-spec .ensures, c .before .before .before .before .before .before .before .before .before .before .spec-of .ensures) at (c .before .before .before .before .before .before .before .before .if1 .left), simp (c .before .before .before .before .before .before .before .holds .ensures) at (c .before .before .before .before .before .before .if2 .left), lt-leb _ _ (simp (c .before .before .before .before .before .elapsed .ensures, c .before .before .before .before .before .before .before .before .before .before .spec-of .ensures) at (c .before .before .before .if3 .left)))
+returns-4 c =
+    let c₂ = c .before .before in
+    let c₃ = c₂ .before in
+    let c₅ = c₃ .before .before in
+    let c₆ = c₅ .before in
+    let c₇ = c₆ .before in
+    let c₈ = c₇ .before in
+    let c₉ = c₈ .before in
+    let c₁₀ = c₉ .before in
+    simp (
+      c .begin .ensures,
+      c₂ .level .ensures,
+      c₁₀ .spec-of .ensures,
+      c₅ .elapsed .ensures,
+      simp (
+        c₉ .same-spec .ensures,
+        c₁₀ .spec-of .ensures,
+      ) at (c₈ .if1 .left),
+      simp (c₇ .holds .ensures) at (c₆ .if2 .left),
+      lt-leb _ _ (simp (
+        c₅ .elapsed .ensures,
+        c₁₀ .spec-of .ensures,
+      ) at (c₃ .if3 .left)),
+    )
 
 pub replan-spec : {M : Type 1} → statement M
 replan-spec =

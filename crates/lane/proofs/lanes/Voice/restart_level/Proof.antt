@@ -27,11 +27,17 @@ unit-requires-2 c κs = search needs
 
 returns-2 : tie.Need-returns-2
 unfolding restartLevel restarted
-returns-2 c = simp (simp (c .before .before .before .before .is-idle .ensures) at (c .before .before .before .if1 .left), c .before .enum-told .given .1, c .level .ensures)
+returns-2 c =
+    let c₃ = c .before .before .before in
+    let c₄ = c₃ .before in
+    simp (simp (c₄ .is-idle .ensures) at (c₃ .if1 .left), c .before .enum-told .given .1, c .level .ensures)
 
 returns-3 : tie.Need-returns-3
 unfolding restartLevel restarted
-returns-3 c = simp (simp (c .before .before .before .before .is-idle .ensures) at (c .before .before .before .if1 .left), c .before .enum-told2 .given .1, c .unit2 .ensures)
+returns-3 c =
+    let c₃ = c .before .before .before in
+    let c₄ = c₃ .before in
+    simp (simp (c₄ .is-idle .ensures) at (c₃ .if1 .left), c .before .enum-told2 .given .1, c .unit2 .ensures)
 
 pub restart-level-spec : {M : Type 1} → statement M
 restart-level-spec =

@@ -18,7 +18,10 @@ enter-requires c κs = search needs
 
 returns-2 : tie.Need-returns-2
 unfolding trigger
-returns-2 c = simp (c .enter .ensures, c .before .note-level .ensures, simp (c .before .before .before .leaves-alone .ensures) at (c .before .before .if1 .left))
+returns-2 c =
+    let c₂ = c .before .before in
+    let c₃ = c₂ .before in
+    simp (c .enter .ensures, c .before .note-level .ensures, simp (c₃ .leaves-alone .ensures) at (c₂ .if1 .left))
 
 pub trigger-spec : {M : Type 1} → statement M
 trigger-spec =
