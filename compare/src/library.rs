@@ -66,3 +66,42 @@ exports! {
         beats: bool, value: f32, sample_rate: f64, tempo: f64, scale: f64
     ) -> u64;
 }
+
+mod lent {
+    unsafe extern "C" {
+        /// A slice passes as where it begins and how many elements it has.
+        pub fn worfelli_note(
+            sample_rate: f64,
+            attack: f32,
+            decay: f32,
+            sustain: f32,
+            out: *mut f32,
+            len: usize,
+        ) -> u32;
+    }
+}
+
+/// Exports that write to lent memory.
+pub const LENT: &[Export] = &[Export {
+    name: "note",
+    symbol: "worfelli_note",
+    arguments: &["f64", "f32", "f32", "f32", "&mut [f32]"],
+    result: "u32",
+}];
+
+/// The first levels of a new note on a fresh envelope of the Rust's AMP with
+/// this attack, decay and sustain. Answers the refusal's number, or 0.
+pub fn note(sample_rate: f64, attack: f32, decay: f32, sustain: f32, out: &mut [f32]) -> u32 {
+    // SAFETY: it is proved total on every value of its types, writes only the
+    // slice that it is lent, and keeps nothing.
+    unsafe {
+        lent::worfelli_note(
+            sample_rate,
+            attack,
+            decay,
+            sustain,
+            out.as_mut_ptr(),
+            out.len(),
+        )
+    }
+}

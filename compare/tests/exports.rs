@@ -1,9 +1,9 @@
 //! The declarations of the library's exports are those of the Rattle's source:
 //! none is missing, none is too many, and their types agree.
 
-use compare::library::{Export, NUMBERS};
+use compare::library::{Export, LENT, NUMBERS};
 
-/// The source that exports the number helpers.
+/// The source of the exports.
 const SOURCE: &str = include_str!("../../crates/exports/src/lib.rt");
 
 /// A declaration as one line, `name(type, type) -> type`.
@@ -35,6 +35,7 @@ fn exported(source: &str) -> Vec<String> {
 fn declared_as_exported() {
     let mut declared: Vec<String> = NUMBERS
         .iter()
+        .chain(LENT)
         .map(|export: &Export| shown(export.symbol, export.arguments, export.result))
         .collect();
     let mut exported = exported(SOURCE);

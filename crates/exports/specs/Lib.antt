@@ -1,2 +1,3 @@
 -- What C's numbers stand for.
 pub mod Clock
+pub mod Note

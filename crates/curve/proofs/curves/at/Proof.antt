@@ -1,5 +1,5 @@
-use Rattle.curve.specs.Curves.{at}
 use borrow.Author.Needs.{needs}
+use Rattle.curve.specs.Curves.{at}
 use Rattle.curve.proofs.curves.at.Statement.{statement}
 use Rattle.curve.proofs.curves.at.Tie as tie
 

@@ -1,6 +1,6 @@
+use borrow.Author.Needs.{needs}
 use lib.Ieee.{ofBits}
 use Rattle.curve.specs.Curves.{bend}
-use borrow.Author.Needs.{needs}
 use Rattle.curve.proofs.curves.bend.Statement.{statement}
 use Rattle.curve.proofs.curves.bend.Tie as tie
 

@@ -1,5 +1,5 @@
-use lib.IntN.{negsuc}
 use lib.Ieee.{ofBits}
+use lib.IntN.{negsuc}
 use Rattle.curve.specs.Curves.{isStraight}
 use Rattle.curve.proofs.Straight.{or-true, or-false, abs-negative, abs-other}
 use Rattle.curve.proofs.curves.is_straight.Statement.{statement}

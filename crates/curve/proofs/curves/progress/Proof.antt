@@ -1,6 +1,6 @@
+use borrow.Author.Needs.{needs}
 use lib.Ieee.{ofBits}
 use Rattle.curve.specs.Curves.{progress}
-use borrow.Author.Needs.{needs}
 use Rattle.curve.proofs.curves.progress.Statement.{statement}
 use Rattle.curve.proofs.curves.progress.Tie as tie
 

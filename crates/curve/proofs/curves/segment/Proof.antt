@@ -1,6 +1,6 @@
+use borrow.Author.Needs.{needs}
 use lib.Ieee.{ofBits}
 use Rattle.curve.specs.Curves.{segment, straight, bent}
-use borrow.Author.Needs.{needs}
 use Rattle.curve.proofs.curves.segment.Statement.{statement}
 use Rattle.curve.proofs.curves.segment.Tie as tie
 

@@ -1,6 +1,6 @@
+use borrow.Author.Needs.{needs}
 use lib.Ieee.{ofBits}
 use Rattle.curve.specs.Curves.{timeAt}
-use borrow.Author.Needs.{needs}
 use Rattle.curve.proofs.curves.time_at.Statement.{statement}
 use Rattle.curve.proofs.curves.time_at.Tie as tie
 

@@ -1,13 +1,13 @@
-use Rattle.envelope.proofs.Runs.{u-next}
-use Rattle.envelope.proofs.Fill.{filled-none, filled-more}
-use Rattle.envelope.specs.Parts.{Filled, levelAfter}
-use Rattle.curve.specs.Segments.{uAfter}
+use mathlib.Core.Path.{_≡_, refl, ap, _∙_, subst}
+use Prim.Native.Nat.{ℕ, _+_, _-_, _≤_}
+use native.Mathlib.Omega.{arith}
+use borrow.Author.Needs.{needs}
 use lib.Ieee.{Float, nan, binary32, add, mul}
 use lib.ListN.{length}
-use borrow.Author.Needs.{needs}
-use native.Mathlib.Omega.{arith}
-use Prim.Native.Nat.{ℕ, _+_, _-_, _≤_}
-use mathlib.Core.Path.{_≡_, refl, ap, _∙_, subst}
+use Rattle.curve.specs.Segments.{uAfter}
+use Rattle.envelope.specs.Parts.{Filled, levelAfter}
+use Rattle.envelope.proofs.Fill.{filled-none, filled-more}
+use Rattle.envelope.proofs.Runs.{u-next}
 use Rattle.envelope.proofs.drawing.draw.Statement.{statement}
 use Rattle.envelope.proofs.drawing.draw.Tie as tie
 

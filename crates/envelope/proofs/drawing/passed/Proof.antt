@@ -1,8 +1,8 @@
-use Rattle.envelope.proofs.Runs.{run-ends}
-use Rattle.lane.proofs.Frames.{frames-untimed, frames-inside}
-use native.Mathlib.Omega.{arith}
 use mathlib.Core.Path.{sym, _∙_}
+use native.Mathlib.Omega.{arith}
 use borrow.Author.Needs.{needs}
+use Rattle.lane.proofs.Frames.{frames-untimed, frames-inside}
+use Rattle.envelope.proofs.Runs.{run-ends}
 use Rattle.envelope.proofs.drawing.passed.Statement.{statement}
 use Rattle.envelope.proofs.drawing.passed.Tie as tie
 

@@ -1,5 +1,5 @@
-use Rattle.lane.specs.Planning.{join}
 use borrow.Author.Needs.{needs}
+use Rattle.lane.specs.Planning.{join}
 use Rattle.lane.proofs.lanes.join.Statement.{statement}
 use Rattle.lane.proofs.lanes.join.Tie as tie
 

@@ -1,6 +1,6 @@
-use Rattle.lane.specs.Planning.{joinAttack}
-use lib.Ieee.{ofBits}
 use borrow.Author.Needs.{needs}
+use lib.Ieee.{ofBits}
+use Rattle.lane.specs.Planning.{joinAttack}
 use Rattle.lane.proofs.lanes.join_attack.Statement.{statement}
 use Rattle.lane.proofs.lanes.join_attack.Tie as tie
 

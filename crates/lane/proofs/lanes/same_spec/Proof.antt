@@ -1,5 +1,5 @@
-use Rattle.lane.specs.Planning.{same}
 use borrow.Author.Tests.{eq-eqb, ne-eqb}
+use Rattle.lane.specs.Planning.{same}
 use Rattle.lane.proofs.lanes.same_spec.Statement.{statement}
 use Rattle.lane.proofs.lanes.same_spec.Tie as tie
 

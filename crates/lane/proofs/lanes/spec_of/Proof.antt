@@ -1,6 +1,6 @@
-use Rattle.lane.specs.Planning.{spec}
-use lib.Ieee.{ofBits}
 use borrow.Author.Needs.{needs}
+use lib.Ieee.{ofBits}
+use Rattle.lane.specs.Planning.{spec}
 use Rattle.lane.proofs.lanes.spec_of.Statement.{statement}
 use Rattle.lane.proofs.lanes.spec_of.Tie as tie
 

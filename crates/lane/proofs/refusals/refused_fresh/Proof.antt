@@ -1,10 +1,10 @@
-use Rattle.lane.specs.Refusals.{fresh, timing, params, rateOver}
-use native.Mathlib.Omega.{arith}
-use Prim.Native.Nat.{ℕ}
-use mathlib.Core.Logic.{_≢_}
-use mathlib.Core.Bool.{Bool, true, false, cond}
 use mathlib.Core.Path.{_≡_, refl, _∙_}
+use mathlib.Core.Bool.{Bool, true, false, cond}
+use mathlib.Core.Logic.{_≢_}
+use Prim.Native.Nat.{ℕ}
+use native.Mathlib.Omega.{arith}
 use borrow.Author.Needs.{needs}
+use Rattle.lane.specs.Refusals.{fresh, timing, params, rateOver}
 use Rattle.lane.proofs.refusals.refused_fresh.Statement.{statement}
 use Rattle.lane.proofs.refusals.refused_fresh.Tie as tie
 

@@ -1,5 +1,5 @@
-use Rattle.lane.specs.Refusals.{params, timeOver}
 use lib.Ieee.{ofBits}
+use Rattle.lane.specs.Refusals.{params, timeOver}
 use Rattle.lane.proofs.refusals.refused_params.Statement.{statement}
 use Rattle.lane.proofs.refusals.refused_params.Tie as tie
 

@@ -1,5 +1,5 @@
-use Rattle.lane.specs.Refusals.{timing, rateOver}
 use lib.Ieee.{ofBits}
+use Rattle.lane.specs.Refusals.{timing, rateOver}
 use Rattle.lane.proofs.refusals.refused_timing.Statement.{statement}
 use Rattle.lane.proofs.refusals.refused_timing.Tie as tie
 

@@ -1,12 +1,12 @@
-use Rattle.lane.proofs.Finding.{not-true, not-false, timed-next, last-holds, last-timed}
+use mathlib.Core.Path.{_≡_, sym, _∙_}
+use Prim.Native.Nat.{ℕ, _+_, _≤_}
+use native.Mathlib.Nat.{zero-add}
+use native.Mathlib.Omega.{arith}
+use borrow.Author.Needs.{needs}
+use Rattle.numbers.specs.Counts.{held}
 use Rattle.lane.specs.Readings.{lasts, lastFrom}
 use Rattle.lane.specs.Stages.{timedStages}
-use Rattle.numbers.specs.Counts.{held}
-use borrow.Author.Needs.{needs}
-use native.Mathlib.Omega.{arith}
-use native.Mathlib.Nat.{zero-add}
-use Prim.Native.Nat.{ℕ, _+_, _≤_}
-use mathlib.Core.Path.{_≡_, sym, _∙_}
+use Rattle.lane.proofs.Finding.{not-true, not-false, timed-next, last-holds, last-timed}
 use Rattle.lane.proofs.voices.stages_last.Statement.{statement}
 use Rattle.lane.proofs.voices.stages_last.Tie as tie
 

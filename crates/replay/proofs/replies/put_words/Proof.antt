@@ -1,7 +1,7 @@
 use mathlib.Core.Path.{_≡_}
 use Prim.Native.Nat.{_-_, _≤_}
-use lib.ListN.{length}
 use borrow.Author.Needs.{needs}
+use lib.ListN.{length}
 use Rattle.replay.proofs.replies.put_words.Statement.{statement}
 use Rattle.replay.proofs.replies.put_words.Tie as tie
 

@@ -1,16 +1,16 @@
-use Rattle.envelope.specs.declared.envelopes.Envelope.{Envelope}
-use Rattle.envelope.proofs.Runs.{levelAt, all-levels, run-levels, frames-voice}
-use Rattle.envelope.proofs.Fill.{filled-none, filled-on}
-use Rattle.envelope.specs.Parts.{Filled, levelAfter}
-use Rattle.lane.proofs.Frames.{frames-add}
-use Rattle.lane.specs.Voices.{frames}
-use Rattle.lane.specs.declared.lanes.Voice.{Voice}
+use mathlib.Core.Path.{_≡_, refl, sym, ap, _∙_, subst}
+use Prim.Native.Nat.{ℕ, _+_, _-_, _≤_}
+use native.Mathlib.Omega.{arith}
+use borrow.Author.Needs.{needs}
 use lib.Ieee.{nan}
 use lib.ListN.{length}
-use borrow.Author.Needs.{needs}
-use native.Mathlib.Omega.{arith}
-use Prim.Native.Nat.{ℕ, _+_, _-_, _≤_}
-use mathlib.Core.Path.{_≡_, refl, sym, ap, _∙_, subst}
+use Rattle.lane.specs.Voices.{frames}
+use Rattle.lane.specs.declared.lanes.Voice.{Voice}
+use Rattle.lane.proofs.Frames.{frames-add}
+use Rattle.envelope.specs.declared.envelopes.Envelope.{Envelope}
+use Rattle.envelope.specs.Parts.{Filled, levelAfter}
+use Rattle.envelope.proofs.Fill.{filled-none, filled-on}
+use Rattle.envelope.proofs.Runs.{levelAt, all-levels, run-levels, frames-voice}
 use Rattle.envelope.proofs.envelopes.Envelope.after_process.Statement.{statement}
 use Rattle.envelope.proofs.envelopes.Envelope.after_process.Tie as tie
 

@@ -1,7 +1,7 @@
-use lib.Ieee.{ofBits}
 use mathlib.Core.Path.{sym}
-use borrow.Author.Tests.{ne-eqb}
 use borrow.Author.Needs.{needs}
+use borrow.Author.Tests.{ne-eqb}
+use lib.Ieee.{ofBits}
 use Rattle.envelope.proofs.envelopes.Envelope.fresh.Statement.{statement}
 use Rattle.envelope.proofs.envelopes.Envelope.fresh.Tie as tie
 

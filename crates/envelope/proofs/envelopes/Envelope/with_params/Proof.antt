@@ -1,6 +1,6 @@
 use mathlib.Core.Path.{sym}
-use borrow.Author.Tests.{ne-eqb}
 use borrow.Author.Needs.{needs}
+use borrow.Author.Tests.{ne-eqb}
 use Rattle.envelope.proofs.envelopes.Envelope.with_params.Statement.{statement}
 use Rattle.envelope.proofs.envelopes.Envelope.with_params.Tie as tie
 

@@ -1,6 +1,6 @@
-use Rattle.lane.specs.Planning.{advance, moved}
-use borrow.Author.Tests.{lt-ltb, le-ltb}
 use borrow.Author.Needs.{needs}
+use borrow.Author.Tests.{lt-ltb, le-ltb}
+use Rattle.lane.specs.Planning.{advance, moved}
 use Rattle.lane.proofs.lanes.Lane.advance.Statement.{statement}
 use Rattle.lane.proofs.lanes.Lane.advance.Tie as tie
 

@@ -1,5 +1,5 @@
-use Rattle.lane.specs.Planning.{begin}
 use borrow.Author.Needs.{needs}
+use Rattle.lane.specs.Planning.{begin}
 use Rattle.lane.proofs.lanes.Lane.begin.Statement.{statement}
 use Rattle.lane.proofs.lanes.Lane.begin.Tie as tie
 

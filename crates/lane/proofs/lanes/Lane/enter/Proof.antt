@@ -1,5 +1,5 @@
-use Rattle.lane.specs.Planning.{enter, settle}
 use borrow.Author.Needs.{needs}
+use Rattle.lane.specs.Planning.{enter, settle}
 use Rattle.lane.proofs.lanes.Lane.enter.Statement.{statement}
 use Rattle.lane.proofs.lanes.Lane.enter.Tie as tie
 

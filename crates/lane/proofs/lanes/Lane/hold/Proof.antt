@@ -1,5 +1,5 @@
-use Rattle.lane.specs.Planning.{hold}
 use borrow.Author.Needs.{needs}
+use Rattle.lane.specs.Planning.{hold}
 use Rattle.lane.proofs.lanes.Lane.hold.Statement.{statement}
 use Rattle.lane.proofs.lanes.Lane.hold.Tie as tie
 

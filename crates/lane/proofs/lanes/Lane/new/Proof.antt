@@ -1,6 +1,6 @@
-use Rattle.lane.specs.Planning.{new}
-use lib.Ieee.{ofBits}
 use borrow.Author.Needs.{needs}
+use lib.Ieee.{ofBits}
+use Rattle.lane.specs.Planning.{new}
 use Rattle.lane.proofs.lanes.Lane.new.Statement.{statement}
 use Rattle.lane.proofs.lanes.Lane.new.Tie as tie
 

@@ -1,5 +1,5 @@
-use Rattle.lane.specs.Planning.{startSegment}
 use borrow.Author.Needs.{needs}
+use Rattle.lane.specs.Planning.{startSegment}
 use Rattle.lane.proofs.lanes.Lane.start_segment.Statement.{statement}
 use Rattle.lane.proofs.lanes.Lane.start_segment.Tie as tie
 

@@ -1,8 +1,8 @@
 use Prim.Native.Nat.{_-_}
-use Rattle.lane.specs.Voices.{frame}
 use native.Mathlib.Omega.{arith}
-use borrow.Author.Tests.{eq-eqb, ne-eqb}
 use borrow.Author.Needs.{needs}
+use borrow.Author.Tests.{eq-eqb, ne-eqb}
+use Rattle.lane.specs.Voices.{frame}
 use Rattle.lane.proofs.lanes.Voice.frame.Statement.{statement}
 use Rattle.lane.proofs.lanes.Voice.frame.Tie as tie
 

@@ -1,7 +1,7 @@
-use Rattle.lane.specs.Readings.{lead, rest}
-use Rattle.lane.proofs.Finding.{not-true, not-false}
 use native.Mathlib.Omega.{arith}
 use borrow.Author.Needs.{needs}
+use Rattle.lane.specs.Readings.{lead, rest}
+use Rattle.lane.proofs.Finding.{not-true, not-false}
 use Rattle.lane.proofs.lanes.Voice.lead.Statement.{statement}
 use Rattle.lane.proofs.lanes.Voice.lead.Tie as tie
 

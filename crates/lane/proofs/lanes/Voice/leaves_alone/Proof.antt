@@ -1,5 +1,5 @@
-use Rattle.lane.specs.Voices.{leavesAlone}
 use borrow.Author.Needs.{needs}
+use Rattle.lane.specs.Voices.{leavesAlone}
 use Rattle.lane.proofs.lanes.Voice.leaves_alone.Statement.{statement}
 use Rattle.lane.proofs.lanes.Voice.leaves_alone.Tie as tie
 

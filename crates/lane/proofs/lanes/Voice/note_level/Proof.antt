@@ -1,5 +1,5 @@
-use Rattle.lane.specs.Voices.{noteLevel}
 use borrow.Author.Needs.{needs}
+use Rattle.lane.specs.Voices.{noteLevel}
 use Rattle.lane.proofs.lanes.Voice.note_level.Statement.{statement}
 use Rattle.lane.proofs.lanes.Voice.note_level.Tie as tie
 

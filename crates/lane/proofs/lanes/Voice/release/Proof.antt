@@ -1,5 +1,5 @@
-use Rattle.lane.specs.Voices.{release}
 use borrow.Author.Needs.{needs}
+use Rattle.lane.specs.Voices.{release}
 use Rattle.lane.proofs.lanes.Voice.release.Statement.{statement}
 use Rattle.lane.proofs.lanes.Voice.release.Tie as tie
 

@@ -1,6 +1,6 @@
-use Rattle.lane.specs.Voices.{replan, elapsed}
-use borrow.Author.Tests.{le-leb, lt-leb}
 use borrow.Author.Needs.{needs}
+use borrow.Author.Tests.{le-leb, lt-leb}
+use Rattle.lane.specs.Voices.{replan, elapsed}
 use Rattle.lane.proofs.lanes.Voice.replan.Statement.{statement}
 use Rattle.lane.proofs.lanes.Voice.replan.Tie as tie
 

@@ -1,6 +1,6 @@
-use Rattle.lane.specs.Voices.{reset}
-use lib.Ieee.{ofBits}
 use borrow.Author.Needs.{needs}
+use lib.Ieee.{ofBits}
+use Rattle.lane.specs.Voices.{reset}
 use Rattle.lane.proofs.lanes.Voice.reset.Statement.{statement}
 use Rattle.lane.proofs.lanes.Voice.reset.Tie as tie
 

@@ -1,5 +1,5 @@
-use Rattle.lane.specs.Voices.{restartLevel, restarted}
 use borrow.Author.Needs.{needs}
+use Rattle.lane.specs.Voices.{restartLevel, restarted}
 use Rattle.lane.proofs.lanes.Voice.restart_level.Statement.{statement}
 use Rattle.lane.proofs.lanes.Voice.restart_level.Tie as tie
 

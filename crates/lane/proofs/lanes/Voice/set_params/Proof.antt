@@ -1,5 +1,5 @@
-use Rattle.lane.specs.Voices.{setParams, withParams}
 use borrow.Author.Needs.{needs}
+use Rattle.lane.specs.Voices.{setParams, withParams}
 use Rattle.lane.proofs.lanes.Voice.set_params.Statement.{statement}
 use Rattle.lane.proofs.lanes.Voice.set_params.Tie as tie
 

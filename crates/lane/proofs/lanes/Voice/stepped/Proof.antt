@@ -1,6 +1,6 @@
-use Rattle.lane.specs.Voices.{stepped}
-use Rattle.curve.specs.Segments.{nextU}
 use mathlib.Core.Path.{refl}
+use Rattle.curve.specs.Segments.{nextU}
+use Rattle.lane.specs.Voices.{stepped}
 use Rattle.lane.proofs.lanes.Voice.stepped.Statement.{statement}
 use Rattle.lane.proofs.lanes.Voice.stepped.Tie as tie
 

@@ -1,5 +1,5 @@
-use Rattle.lane.specs.Readings.{tail}
 use borrow.Author.Needs.{needs}
+use Rattle.lane.specs.Readings.{tail}
 use Rattle.lane.proofs.lanes.Voice.tail.Statement.{statement}
 use Rattle.lane.proofs.lanes.Voice.tail.Tie as tie
 

@@ -1,5 +1,5 @@
-use Rattle.lane.specs.Voices.{trigger}
 use borrow.Author.Needs.{needs}
+use Rattle.lane.specs.Voices.{trigger}
 use Rattle.lane.proofs.lanes.Voice.trigger.Statement.{statement}
 use Rattle.lane.proofs.lanes.Voice.trigger.Tie as tie
 
