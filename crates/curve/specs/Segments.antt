@@ -1,7 +1,5 @@
 -- Segments: five binary32 numbers and a count. All in binary32, two roundings to a line.
 use Prim.Native.Nat.{ℕ, zero, suc}
-use mathlib.Core.Bool.{Bool, not}
-use lib.Dec.{eqb}
 use lib.Ieee.{Float, binary32, add, mul}
 use Rattle.numbers.specs.Constants as Constants
 use Rattle.numbers.specs.Constants.{one}
@@ -27,6 +25,3 @@ nextU g = add binary32 (mul binary32 (g .u) (g .r)) (g .d)
 abbrev pub uAfter : ℕ → Float → Float → Float → Float
 uAfter zero u r d = u
 uAfter (suc n) u r d = uAfter n (add binary32 (mul binary32 u r) d) r d
-
-abbrev pub isTimed : Segment → Bool
-isTimed g = not (eqb (g .left) untimed)

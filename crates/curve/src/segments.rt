@@ -36,11 +36,4 @@ impl Segment {
     {
         self.u * self.scale + self.base
     }
-
-    // Whether it ends at some point, rather than holding until an event.
-    pub fn is_timed(self) -> bool
-        ensures { λ r. ⌜ r ≡ Segments.isTimed self ⌝ }
-    {
-        self.left != UNTIMED
-    }
 }

@@ -13,7 +13,6 @@ use crate::settings::EnvelopeParams;
 use crate::settings::StealRestart;
 use crate::settings::Trigger;
 use crate::stages::Stage;
-use curve::Segment;
 use curve::UNTIMED;
 use timing::Timing;
 
