@@ -1,4 +1,4 @@
--- Counts held at the largest u64. No envelope that calls from a fresh one left comes near it (lane/proofs/Reachable.antt).
+-- Counts held at the largest u64. No envelope that calls from a fresh one left comes near it (envelope/proofs/Reachable.antt).
 use Prim.Native.Nat.{ℕ, min}
 
 abbrev pub held : ℕ → ℕ
