@@ -11,6 +11,7 @@ use Rattle.envelope.proofs.Runs.{u-next}
 use Rattle.envelope.proofs.drawing.draw.Statement.{statement}
 use Rattle.envelope.proofs.drawing.draw.Tie as tie
 
+-- The levels from `from` to `at` are written, and u has stepped as often.
 abbrev Inv-loop : tie.InvT-loop
 Inv-loop out₀ from run seg u₀ at₀ end out u at =
     (from ≤ at)

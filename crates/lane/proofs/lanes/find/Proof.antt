@@ -7,6 +7,7 @@ use Rattle.lane.proofs.Finding.{timed-next, find-holds, find-timed, fin
 use Rattle.lane.proofs.lanes.find.Statement.{statement}
 use Rattle.lane.proofs.lanes.find.Tie as tie
 
+-- From the present stage and level the search gives the answer.
 abbrev Inv-loop : tie.InvT-loop
 Inv-loop p timing first-level stage₀ level₀ stage level = find p timing stage level ≡ find p timing stage₀ level₀
 

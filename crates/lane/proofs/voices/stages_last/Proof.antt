@@ -1,14 +1,17 @@
 use mathlib.Core.Path.{_≡_, sym, _∙_}
-use Prim.Native.Nat.{ℕ, _+_, _≤_}
-use native.Mathlib.Nat.{zero-add}
+use Prim.Native.Nat.{ℕ, suc, _+_, _≤_}
+use native.Mathlib.Nat.{le-refl, zero-add}
 use native.Mathlib.Omega.{arith}
 use borrow.Author.Needs.{needs}
 use Rattle.numbers.specs.Counts.{held}
 use Rattle.lane.specs.Readings.{lasts, lastFrom}
-use Rattle.lane.specs.Stages.{timedStages}
+use Rattle.lane.specs.Stages.{next, timedStages}
 use Rattle.lane.proofs.Finding.{not-true, not-false, timed-next, last-holds, last-timed}
 use Rattle.lane.proofs.voices.stages_last.Statement.{statement}
 use Rattle.lane.proofs.voices.stages_last.Tie as tie
+
+fits : (a : ℕ) → held a ≤ 18446744073709551615
+fits a = omega arith
 
 more : (a b c : ℕ) → held (held (a + b) + c) ≡ held (a + (b + c))
 more a b c = omega arith
@@ -16,6 +19,7 @@ more a b c = omega arith
 within : (a b : ℕ) → b ≡ 0 → a ≤ 18446744073709551615 → a ≡ held (a + b)
 within a b h k = omega arith
 
+-- The sum so far, and what is left of the definition, give the answer.
 abbrev Inv-loop : tie.InvT-loop
 Inv-loop p timing first-level stage₀ level₀ sum₀ stage level sum =
     (sum ≤ 18446744073709551615)
@@ -50,7 +54,7 @@ loop-less c =
     let c₅ = c .before .before .before .before .before in
     let c₆ = c₅ .before in
     let c₇ = c₆ .before in
-    rw (c .next .ensures, timed-next (c₇ .loop .stage) (sym (c₆ .holds .ensures) ∙ not-true (c₆ .holds .result) (c₅ .if1 .taken))) (omega arith)
+    rw (c .next .ensures, timed-next (c₇ .loop .stage) (sym (c₆ .holds .ensures) ∙ not-true (c₆ .holds .result) (c₅ .if1 .taken))) (le-refl (suc (timedStages (next (c₇ .loop .stage)))))
 
 loop-again : tie.Need-loop-again Inv-loop μ-loop
 unfolding lasts
@@ -67,7 +71,7 @@ loop-again c =
     let h = sym (c₆ .holds .ensures) ∙ not-true (c₆ .holds .result) (c₅ .if1 .taken) in
     let e = last-timed (a .p) (a .timing) (l .stage) (l .level) h in
     rw (c .next .ensures, c .before .saturating-add .ensures, c₂ .saturating-sub .ensures, c₃ .join .ensures, c₄ .spec-of .ensures)
-    (omega arith, more (l .sum) _ _ ∙ rw (sym e) (l .inv .1))
+    (fits _, more (l .sum) _ _ ∙ rw (sym e) (l .inv .1))
 
 returns : tie.Need-returns Inv-loop μ-loop
 returns c =

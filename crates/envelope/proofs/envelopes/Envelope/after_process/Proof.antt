@@ -14,6 +14,7 @@ use Rattle.envelope.proofs.Runs.{levelAt, all-levels, run-levels, frame
 use Rattle.envelope.proofs.envelopes.Envelope.after_process.Statement.{statement}
 use Rattle.envelope.proofs.envelopes.Envelope.after_process.Tie as tie
 
+-- What has been written are the levels of the first `done` frames, and the voice is the one after them.
 abbrev Inv-loop : tie.InvT-loop
 Inv-loop out₀ timing voice₀ done₀ out voice done =
     (done ≤ length out)

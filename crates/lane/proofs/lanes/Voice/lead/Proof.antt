@@ -1,9 +1,15 @@
+use mathlib.Core.Path.{_≡_}
+use Prim.Native.Nat.{ℕ, _+_}
 use native.Mathlib.Omega.{arith}
 use borrow.Author.Needs.{needs}
+use Rattle.numbers.specs.Counts.{held}
 use Rattle.lane.specs.Readings.{lead, rest}
 use Rattle.lane.proofs.Finding.{not-true, not-false}
 use Rattle.lane.proofs.lanes.Voice.lead.Statement.{statement}
 use Rattle.lane.proofs.lanes.Voice.lead.Tie as tie
+
+plain : (a b c : ℕ) → held (held (a + b) + held c) ≡ held (a + b + c)
+plain a b c = omega arith
 
 leads-up-requires : tie.Need-leads-up-requires
 leads-up-requires c κs = search needs
@@ -53,7 +59,7 @@ returns-2 c =
       c₃ .saturating-add .ensures,
       c₅ .saturating-sub2 .ensures,
       c₇ .saturating-sub .ensures,
-    ) (omega arith)
+    ) (plain _ _ _)
 
 pub lead-spec : {M : Type 1} → statement M
 lead-spec =
