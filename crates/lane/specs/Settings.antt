@@ -35,18 +35,18 @@ amp =
 abbrev pub modulation : EnvelopeParams
 modulation =
     record {
-      unit = Milliseconds;
-      delay = zero;
+      unit = amp .unit;
+      delay = amp .delay;
       attack = half;
-      hold = zero;
-      decay = fin false 125 (Int.pos 3);
-      sustain = one;
-      release = fin false 15 (Int.pos 0);
-      «attack_curve» = half;
-      «decay_curve» = curve66;
-      «release_curve» = curve66;
-      start = zero;
-      end = zero;
-      «legato_inverted» = false;
+      hold = amp .hold;
+      decay = amp .decay;
+      sustain = amp .sustain;
+      release = amp .release;
+      «attack_curve» = amp .«attack_curve»;
+      «decay_curve» = amp .«decay_curve»;
+      «release_curve» = amp .«release_curve»;
+      start = amp .start;
+      end = amp .end;
+      «legato_inverted» = amp .«legato_inverted»;
       «steal_restart» = StartLevel;
     }

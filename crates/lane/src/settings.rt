@@ -58,20 +58,9 @@ impl EnvelopeParams {
 
     // A modulation envelope as an initialised patch has it.
     pub const MODULATION: Self = Self {
-        unit: TimeUnit::Milliseconds,
-        delay: 0.0,
         attack: 0.5,
-        hold: 0.0,
-        decay: 1000.0,
-        sustain: 1.0,
-        release: 15.0,
-        attack_curve: 0.5,
-        decay_curve: 0.666,
-        release_curve: 0.666,
-        start: 0.0,
-        end: 0.0,
-        legato_inverted: false,
         steal_restart: StealRestart::StartLevel,
+        ..Self::AMP
     };
 
     // Rust's Default.
