@@ -11,3 +11,4 @@ pub use curves::segment;
 pub use curves::time_at;
 pub use segments::Segment;
 pub use segments::UNTIMED;
+pub use segments::run_length;

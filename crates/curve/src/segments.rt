@@ -37,3 +37,20 @@ impl Segment {
         self.u * self.scale + self.base
     }
 }
+
+// How many of the next `most` samples a segment with `left` left draws.
+pub fn run_length(left: u32, most: usize) -> usize
+    ensures length { λ r. ⌜ r ≡ Segments.runLength left most ⌝ }
+    ensures inside { λ r. ⌜ Segments.Inside r left ⌝ }
+{
+    if left == UNTIMED {
+        return most;
+    }
+    if most <= left as usize {
+        return most;
+    }
+    if left == 0 {
+        return 1;
+    }
+    left as usize
+}

@@ -11,7 +11,7 @@ use lib.ListN.{length, getD, set, length-set}
 use lib.Seq.{getD-set-same, getD-set-other}
 use Rattle.envelope.specs.Parts.{Filled}
 
-split : (i n : ℕ) → (i < n) ⊎ (n ≤ i)
+pub split : (i n : ℕ) → (i < n) ⊎ (n ≤ i)
 split i n = go (ltb i n) refl
   where
     go : (t : Bool) → ltb i n ≡ t → (i < n) ⊎ (n ≤ i)

@@ -1,9 +1,9 @@
 -- A run of frames within one segment: the levels that it hands out, and the voice after it; and the levels of frames as a list.
 use mathlib.Core.Path.{_≡_, refl, sym, ap, _∙_, subst}
 use mathlib.Core.Logic.{_≢_}
-use mathlib.Core.Bool.{Bool, true, false}
+use mathlib.Core.Bool.{Bool, true, false, cond}
 use mathlib.Core.List.{List}
-use Prim.Native.Nat.{ℕ, zero, suc, _+_, _-_, _≤_, _<_, max}
+use Prim.Native.Nat.{ℕ, zero, suc, _+_, _-_, _≤_, _<_, min, max}
 use native.Mathlib.Nat.{not-suc-le-zero, le-of-suc-le-suc}
 use native.Mathlib.Omega.{arith}
 use borrow.Author.Tests.{eqb-true, eqb-false}
@@ -14,14 +14,31 @@ use lib.Seq.{ext-getD}
 use Rattle.timing.specs.declared.Timing.{Timing}
 use Rattle.curve.specs.declared.segments.Segment.{Segment}
 use Rattle.curve.specs.Segments as Segments
-use Rattle.curve.specs.Segments.{uAfter, untimed}
+use Rattle.curve.specs.Segments.{Inside, runLength, uAfter, untimed}
 use Rattle.lane.specs.declared.lanes.Voice.{Voice}
 use Rattle.lane.specs.Planning.{advance}
 use Rattle.lane.specs.Voices as Voices
 use Rattle.lane.proofs.Frames.{after, uAfter-add, frames-from, frames-untimed, frames-inside, frame-last, frames-end}
 use Rattle.envelope.specs.declared.envelopes.Envelope.{Envelope}
 use Rattle.envelope.specs.Envelopes.{level, frame, frames, levels}
-use Rattle.envelope.specs.Parts.{Filled, Within, levelAfter}
+use Rattle.envelope.specs.Parts.{Filled, levelAfter}
+
+-- A run has a frame if there is one to draw, and no more than there are.
+pub run-some : (left most : ℕ) → 1 ≤ most → 1 ≤ runLength left most
+unfolding runLength
+run-some left most h = go (eqb left untimed)
+  where
+    go : (x : Bool) → 1 ≤ cond x most (min most (max 1 left))
+    go true = h
+    go false = omega arith
+
+pub run-few : (left most : ℕ) → runLength left most ≤ most
+unfolding runLength
+run-few left most = go (eqb left untimed)
+  where
+    go : (x : Bool) → cond x most (min most (max 1 left)) ≤ most
+    go true = omega arith
+    go false = omega arith
 
 -- One sample more, stepped last.
 pub u-next : (n : ℕ) (u r d : Float) → add binary32 (mul binary32 (uAfter n u r d) r) d ≡ uAfter (n + 1) u r d
@@ -33,7 +50,7 @@ frames-voice zero e = refl
 frames-voice (suc n) e = frames-voice n (frame e)
 
 -- The level k frames on, within the segment.
-pub level-within : (t : Timing) (v : Voice) (m k : ℕ) → Within m (v .seg .left) → k < m
+pub level-within : (t : Timing) (v : Voice) (m k : ℕ) → Inside m (v .seg .left) → k < m
     → levelAfter (v .seg) k ≡ Segments.level (Voices.frames k t v .seg)
 unfolding Segments.level
 level-within t v m k w h = go (eqb (v .seg .left) untimed) refl
@@ -74,7 +91,7 @@ all-levels e l₀ l F =
     F .inside j (omega arith) k ∙ sym (getD-levels (length l₀) j e k))
 
 -- A run that begins `done` frames on draws the levels of the frames from there.
-pub run-levels : (t : Timing) (v₀ v : Voice) (done m j : ℕ) → v ≡ Voices.frames done t v₀ → Within m (v .seg .left) → done ≤ j → j < done + m
+pub run-levels : (t : Timing) (v₀ v : Voice) (done m j : ℕ) → v ≡ Voices.frames done t v₀ → Inside m (v .seg .left) → done ≤ j → j < done + m
     → levelAfter (v .seg) (j - done) ≡ levelAt t v₀ j
 run-levels t v₀ v done m j e w p q =
     level-within t v m (j - done) w (omega arith)

@@ -38,12 +38,18 @@ answer n refused accepted = record { refusal = n; envelope = cond (eqb n 0) acce
 abbrev pub fresh : EnvelopeParams → Timing → Answer
 fresh p t = answer (Refusals.fresh p t) blank (idle p t)
 
-abbrev pub setParams : EnvelopeParams → Envelope → Answer
-setParams p e = answer (Refusals.params p) e (record { voice = Voices.setParams (e .timing) p (e .voice); timing = e .timing })
+-- The new numbers are kept, then `replan`.
+abbrev pub withParams : EnvelopeParams → Envelope → Envelope
+withParams p e = record { voice = Voices.setParams (e .timing) p (e .voice); timing = e .timing }
 
--- The new timing is kept, then `replan`.
+abbrev pub withTiming : Timing → Envelope → Envelope
+withTiming t e = record { voice = Voices.replan t (e .voice); timing = t }
+
+abbrev pub setParams : EnvelopeParams → Envelope → Answer
+setParams p e = answer (Refusals.params p) e (withParams p e)
+
 abbrev pub setTiming : Timing → Envelope → Answer
-setTiming t e = answer (Refusals.timing t) e (record { voice = Voices.replan t (e .voice); timing = t })
+setTiming t e = answer (Refusals.timing t) e (withTiming t e)
 
 abbrev pub trigger : Trigger → Envelope → Envelope
 trigger x e = record { voice = Voices.trigger (e .timing) x (e .voice); timing = e .timing }

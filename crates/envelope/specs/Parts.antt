@@ -1,11 +1,11 @@
 -- What the private functions that draw promise each other. No public statement cites this file.
 use mathlib.Core.Path.{_≡_}
 use mathlib.Core.List.{List}
-use Prim.Native.Nat.{ℕ, _-_, _≤_, _<_, max}
+use Prim.Native.Nat.{ℕ, _≤_, _<_}
 use lib.ListN.{length, getD}
 use lib.Ieee.{Float, binary32, add, mul}
 use Rattle.curve.specs.declared.segments.Segment.{Segment}
-use Rattle.curve.specs.Segments.{uAfter, untimed}
+use Rattle.curve.specs.Segments.{uAfter}
 
 -- l is l₀ but from a to e, where it is f. z is what a reading past the end gives.
 pub record Filled {A : Type 0} (z : A) (f : ℕ → A) (a e : ℕ) (l₀ l : List A) : Type 0 where
@@ -17,7 +17,3 @@ pub record Filled {A : Type 0} (z : A) (f : ℕ → A) (a e : ℕ) (l₀ l : Lis
 -- The level of a segment k samples on.
 abbrev pub levelAfter : Segment → ℕ → Float
 levelAfter g k = add binary32 (mul binary32 (uAfter k (g .u) (g .r) (g .d)) (g .scale)) (g .base)
-
--- m frames do not pass the end of a segment with `left` left. A timed left of 0 counts as 1.
-abbrev pub Within : ℕ → ℕ → Type 0
-Within m left = (left ≤ untimed) × ((left ≡ untimed → ⊥) → m ≤ max 1 left)

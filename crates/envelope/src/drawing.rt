@@ -7,30 +7,13 @@ ghost use Rattle.curve.specs.Segments as Segments;
 ghost use Rattle.lane.specs.Voices as Voices;
 ghost use Rattle.envelope.specs.Envelopes as Envelopes;
 ghost use Rattle.envelope.specs.Parts as Parts;
-ghost use Rattle.envelope.specs.Parts.{Filled, Within};
+ghost use Rattle.envelope.specs.Parts.{Filled};
 use crate::envelopes::Envelope;
 use crate::envelopes::Frame;
 use curve::Segment;
 use curve::UNTIMED;
 use lane::Voice;
 use timing::Timing;
-
-// How many of the next `most` samples a segment with `left` left can draw.
-fn run_length(left: u32, most: usize) -> usize
-    requires { ⌜ 1 ≤ most ⌝ }
-    ensures { λ r. ⌜ (1 ≤ r) × (r ≤ most) × Within r left ⌝ }
-{
-    if left == UNTIMED {
-        return most;
-    }
-    if left == 0 {
-        return 1;
-    }
-    if (left as usize) < most {
-        return left as usize;
-    }
-    most
-}
 
 // Writes the next `run` levels of a segment from out[from] on, and answers the u after them.
 fn draw(out: &mut [f32], from: usize, run: usize, seg: Segment) -> f32
@@ -51,7 +34,7 @@ fn draw(out: &mut [f32], from: usize, run: usize, seg: Segment) -> f32
 
 // The voice after `run` frames within its segment, the last of which left u.
 fn passed(voice: Voice, timing: Timing, run: usize, u: f32) -> Voice
-    requires { ⌜ (1 ≤ run) × Within run (voice .seg .left) ⌝ }
+    requires { ⌜ (1 ≤ run) × Segments.Inside run (voice .seg .left) ⌝ }
     requires { ⌜ u ≡ Segments.uAfter run (voice .seg .u) (voice .seg .r) (voice .seg .d) ⌝ }
     ensures { λ r. ⌜ r ≡ Voices.frames run timing voice ⌝ }
 {
@@ -93,7 +76,7 @@ impl Envelope {
         let mut voice = self.voice;
         let mut done = 0;
         while done < out.len() {
-            let run = run_length(voice.seg.left, out.len() - done);
+            let run = curve::run_length(voice.seg.left, out.len() - done);
             let u = draw(out, done, run, voice.seg);
             voice = passed(voice, timing, run, u);
             done += run;

@@ -5,10 +5,16 @@ use crate::settings::EnvelopeParams;
 use timing::Timing;
 
 pub const ACCEPTED: u32 = 0;
+// A bank of more voices than it has room for.
+pub const TOO_MANY_VOICES: u32 = 1;
+
+pub const NO_SUCH_VOICE: u32 = 2;
 // A time over MAX_TIME.
 pub const TIME_OVER: u32 = 3;
 // A sample rate over MAX_SAMPLE_RATE.
 pub const RATE_OVER: u32 = 4;
+// An output that is not whole frames.
+pub const NOT_WHOLE_FRAMES: u32 = 5;
 
 // In milliseconds or beats.
 pub const MAX_TIME: f32 = 1048576.0;

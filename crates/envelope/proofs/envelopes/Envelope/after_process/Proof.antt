@@ -10,7 +10,7 @@ use Rattle.lane.proofs.Frames.{frames-add}
 use Rattle.envelope.specs.declared.envelopes.Envelope.{Envelope}
 use Rattle.envelope.specs.Parts.{Filled, levelAfter}
 use Rattle.envelope.proofs.Fill.{filled-none, filled-on}
-use Rattle.envelope.proofs.Runs.{levelAt, all-levels, run-levels, frames-voice}
+use Rattle.envelope.proofs.Runs.{run-some, run-few, levelAt, all-levels, run-levels, frames-voice}
 use Rattle.envelope.proofs.envelopes.Envelope.after_process.Statement.{statement}
 use Rattle.envelope.proofs.envelopes.Envelope.after_process.Tie as tie
 
@@ -25,6 +25,13 @@ Inv-loop out₀ timing voice₀ done₀ out voice done =
 abbrev μ-loop : tie.MeasureT-loop
 μ-loop out₀ timing voice₀ done₀ out voice done = length out - done
 
+-- The run has a frame, and no more than are left to draw.
+some : (c : tie.After-run-length Inv-loop μ-loop) → 1 ≤ c .run-length .result
+some c = rw (c .run-length .ensures .0) (run-some _ _ (omega (arith, c .before .loop-test .taken)))
+
+few : (c : tie.After-run-length Inv-loop μ-loop) → c .run-length .result ≤ length (c .before .before .loop .out) - c .before .before .loop .done
+few c = rw (c .run-length .ensures .0) (run-few _ _)
+
 loop-holds : tie.Need-loop-holds Inv-loop μ-loop
 loop-holds c = (search needs, refl, refl, filled-none nan _ 0 _)
 
@@ -35,23 +42,23 @@ run-length-requires : tie.Need-run-length-requires Inv-loop μ-loop
 run-length-requires c κs = search needs
 
 draw-requires : tie.Need-draw-requires Inv-loop μ-loop
-draw-requires c κs = search needs
+draw-requires c κs = omega (arith, few (c .before), c .before .before .loop-test .taken)
 
 passed-requires : tie.Need-passed-requires Inv-loop μ-loop
 passed-requires c κs =
     let c₂ = c .before .before in
     let c₄ = c₂ .before .before in
-    ((c₄ .run-length .ensures .0, c₄ .run-length .ensures .2), c₂ .draw .ensures .1)
+    ((some c₄, c₄ .run-length .ensures .1), c₂ .draw .ensures .1)
 
 add-done : tie.Need-add-done Inv-loop μ-loop
 add-done c =
     let c₅ = c .before .before .before .before .before in
     let c₇ = c₅ .before .before in
     let c₁₁ = c₇ .before .before .before .before in
-    record { fits = omega (arith, c₅ .run-length .ensures .1, c₇ .loop .inv .0, c₇ .loop .inv .1, c₁₁ .good) }
+    record { fits = omega (arith, few c₅, c₇ .loop .inv .0, c₇ .loop .inv .1, c₁₁ .good) }
 
 loop-less : tie.Need-loop-less Inv-loop μ-loop
-loop-less c = search needs
+loop-less c = let c₅ = c .before .before .before .before .before in omega (arith, some c₅, few c₅, c₅ .before .loop-test .taken)
 
 loop-again : tie.Need-loop-again Inv-loop μ-loop
 loop-again c =
@@ -65,12 +72,12 @@ loop-again c =
     let run = c₅ .run-length in
     let drew = c₃ .draw in
     let e : length (drew .last .0) ≡ length (l .out) = drew .ensures .0 .same in (
-      omega (arith, run .ensures .1, l .inv .0, e),
+      omega (arith, few c₅, l .inv .0, e),
       e ∙ l .inv .1,
       c .passed .ensures ∙ ap (frames (run .result) t) (l .inv .2) ∙ sym (frames-add t (l .done) (run .result) (a .self .voice)),
       filled-on nan (levelAt t (a .self .voice)) 0 (λ j. levelAfter (l .voice .seg) (j - l .done)) (l .done) (l .done + run .result)
           (a .out .now) (l .out) (drew .last .0) (omega arith) (omega arith)
-          (λ j p q. run-levels t (a .self .voice) (l .voice) (l .done) (run .result) j (l .inv .2) (run .ensures .2) p q) (l .inv .3)
+          (λ j p q. run-levels t (a .self .voice) (l .voice) (l .done) (run .result) j (l .inv .2) (run .ensures .1) p q) (l .inv .3)
           (drew .ensures .0),
     )
 

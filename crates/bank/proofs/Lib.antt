@@ -1,0 +1,10 @@
+-- Laws about the bank, each file on those before it.
+pub mod Lanes
+pub mod Frames
+mod Owned
+mod Spread
+mod Lent
+mod Rows
+mod Groups
+mod Runs
+mod Whole

@@ -1,0 +1,40 @@
+use mathlib.Core.Path.{ap}
+use Prim.Native.Nat.{_-_}
+use native.Mathlib.Omega.{arith}
+use borrow.Author.Tests.{lt-ltb, le-ltb}
+use borrow.Author.Needs.{needs}
+use Rattle.bank.specs.Calls.{refusal, queryRefusal}
+use Rattle.bank.specs.Banks.{blank, size}
+use Rattle.bank.specs.Replies.{Reply, reply, told, ofIdle}
+use Rattle.bank.proofs.banks.EnvelopeBank.is_idle.Statement.{statement}
+use Rattle.bank.proofs.banks.EnvelopeBank.is_idle.Tie as tie
+
+count-requires : tie.Need-count-requires
+count-requires c κs = search needs
+
+mul-lane : tie.Need-mul-lane
+mul-lane c = search needs
+
+element-copy-out-lane : tie.Need-element-copy-out-lane
+element-copy-out-lane c = search needs
+
+is-idle-requires : tie.Need-is-idle-requires
+is-idle-requires c κs = search needs
+
+returns : tie.Need-returns
+unfolding reply refusal queryRefusal told ofIdle blank
+returns c =
+    let a = c .before .before .before .before .args in
+    rw (lt-ltb (a .voice) (size (a .t1)) (omega (arith, c .before .before .if1 .taken, c .before .before .before .count .ensures)))
+    (ap {B = Reply} Reply.isIdle (c .is-idle .ensures))
+
+returns-2 : tie.Need-returns-2
+unfolding reply refusal queryRefusal told ofIdle
+returns-2 c =
+    let a = c .before .before .args in
+    rw (le-ltb (a .voice) (size (a .t1)) (omega (arith, c .if1 .left, c .before .count .ensures)))
+
+pub is-idle-spec : {M : Type 1} → statement M
+is-idle-spec =
+    tie.close
+    (tie.spec count-requires mul-lane element-copy-out-lane is-idle-requires returns returns-2)

@@ -1,0 +1,41 @@
+use Prim.Native.Nat.{_-_}
+use native.Mathlib.Omega.{arith}
+use borrow.Author.Needs.{needs}
+use Rattle.bank.specs.Calls.{opening}
+use Rattle.bank.specs.Banks.{new, idle}
+use lib.Ieee.{ofBits}
+use Rattle.bank.proofs.Spread.{new-refused, new-accepted}
+use Prim.Native.Nat.{_-_}
+use Rattle.bank.specs.Banks.{new}
+use Rattle.bank.proofs.banks.EnvelopeBank.new.Statement.{statement}
+use Rattle.bank.proofs.banks.EnvelopeBank.new.Tie as tie
+
+refused-requires : tie.Need-refused-requires
+refused-requires c κs = search needs
+
+new-requires : tie.Need-new-requires
+new-requires c κs = search needs
+
+idle-requires : tie.Need-idle-requires
+idle-requires c κs = search needs
+
+returns : tie.Need-returns
+unfolding ofBits
+returns c =
+    let a = c .before .before .before .before .args in
+    let q = c .before .before .before .refused in
+    rw (c .idle .ensures, c .before .new .ensures) (new-refused (opening (a .voices) (a .params) (a .timing)) (q .result) (q .ensures) (c .before .before .if1 .taken))
+
+idle-requires-2 : tie.Need-idle-requires-2
+idle-requires-2 c κs = search needs
+
+returns-2 : tie.Need-returns-2
+returns-2 c =
+    let a = c .before .before .before .args in
+    let q = c .before .before .refused in
+    rw (c .idle2 .ensures) (new-accepted (opening (a .voices) (a .params) (a .timing)) (q .result) (q .ensures) (omega (arith, c .before .if1 .left)))
+
+pub new-spec : {M : Type 1} → statement M
+new-spec =
+    tie.close
+    (tie.spec refused-requires new-requires idle-requires returns idle-requires-2 returns-2)

@@ -1,0 +1,361 @@
+use mathlib.Core.Path.{_≡_, refl, ap, _∙_, subst}
+use Prim.Native.Nat.{ℕ, _+_, _-_, _*_, _/_, _%_, _≤_, _<_}
+use native.Mathlib.Omega.{arith}
+use borrow.Author.Needs.{needs}
+use lib.ListN.{length, getD}
+use borrow.Rule.Slice.PartMut.{same-len-mid}
+use native.Mathlib.Nat.{div-mul-le-self, div-le-self, le-trans, le-add-right}
+use Rattle.bank.specs.declared.banks.EnvelopeBank.{EnvelopeBank}
+use Rattle.bank.specs.Calls.{strideOf}
+use Rattle.bank.specs.Banks.{blank, size}
+use Rattle.bank.proofs.Lanes.{Lanes, bankOf, putLane}
+use Rattle.bank.proofs.Owned.{sized}
+use Rattle.bank.proofs.Rows.{run-fits}
+use Rattle.bank.proofs.Runs.{ranLane, ran-lanes, settledLane, settle-none, settle-to, settle-put}
+use Rattle.bank.proofs.Whole.{Ran, ran-none, ran-more, refused-answer, refused-levels, done-answer, done-levels}
+use Rattle.bank.proofs.banks.EnvelopeBank.process.Statement.{statement}
+use Rattle.bank.proofs.banks.EnvelopeBank.process.Tie as tie
+
+abbrev Inv-loop2 : tie.InvT-loop2
+Inv-loop2 self out voices groups stride frames timing lanes₀ u₀ r₀ d₀ scale₀ base₀ left₀ done run from v₀ lanes u r d scale base left v =
+    let b₁ = bankOf (self .voices) timing lanes₀ u₀ r₀ d₀ scale₀ base₀ left₀ in
+    (v ≤ voices)
+    × (v < voices → getD left v 0 ≡ 0)
+    × Lanes timing (settledLane timing v b₁) b₁ (bankOf (self .voices) timing lanes u r d scale base left)
+
+abbrev μ-loop2 : tie.MeasureT-loop2
+μ-loop2 self out voices groups stride frames timing lanes₀ u₀ r₀ d₀ scale₀ base₀ left₀ done run from v₀ lanes u r d scale base left v = voices - v
+
+abbrev Inv-loop : tie.InvT-loop
+Inv-loop self out₀ voices groups stride frames timing lanes₀ u₀ r₀ d₀ scale₀ base₀ left₀ done₀ out lanes u r d scale base left done =
+    (done ≤ frames)
+    × (length out ≡ length out₀)
+    × (frames * stride ≤ length out₀)
+    × (frames ≤ length out₀)
+    × Ran voices stride self done (bankOf (self .voices) timing lanes u r d scale base left) out
+
+abbrev μ-loop : tie.MeasureT-loop
+μ-loop self out₀ voices groups stride frames timing lanes₀ u₀ r₀ d₀ scale₀ base₀ left₀ done₀ out lanes u r d scale base left done = frames - done
+
+-- ---- places: from what a proof has at hand back to the loops and to the groups of lanes
+
+abbrev run-of : tie.After-next-ended Inv-loop2 μ-loop2 Inv-loop μ-loop → tie.After-shortest Inv-loop2 μ-loop2 Inv-loop μ-loop
+run-of c = c .before .before .before .before .before .before .before .before .before .before .before .before .before
+
+abbrev loop-of : tie.After-shortest Inv-loop2 μ-loop2 Inv-loop μ-loop → tie.At-loop Inv-loop2 μ-loop2 Inv-loop μ-loop
+loop-of c = c .before .before .before
+
+abbrev groups-of : tie.At-loop Inv-loop2 μ-loop2 Inv-loop μ-loop → tie.After-groups Inv-loop2 μ-loop2 Inv-loop μ-loop
+groups-of c = c .before .before .before .before .before .before .before .before .before .before
+
+abbrev bank-of : tie.After-groups Inv-loop2 μ-loop2 Inv-loop μ-loop → EnvelopeBank
+bank-of c = c .before .before .before .args .self
+
+-- The voices, and the groups that hold them.
+few : (c : tie.After-groups Inv-loop2 μ-loop2 Inv-loop μ-loop) → c .before .count .result ≤ 64
+few c = omega (arith, c .before .count .ensures)
+
+grouped : (c : tie.After-groups Inv-loop2 μ-loop2 Inv-loop μ-loop)
+    → (1 ≤ c .groups .result) × (c .groups .result ≤ 4) × (c .before .count .result ≤ 16 * c .groups .result)
+grouped c =
+    let n = c .before .count .ensures in
+    let e = c .groups .ensures in
+    (omega arith, omega arith, omega arith)
+
+stride-is : (c : tie.After-groups Inv-loop2 μ-loop2 Inv-loop μ-loop) → 16 * c .groups .result ≡ strideOf (size (bank-of c))
+stride-is c = ap (λ (n : ℕ). 16 * n) (c .groups .ensures)
+
+-- The run's rows are in the output.
+room : (c : tie.After-shortest Inv-loop2 μ-loop2 Inv-loop μ-loop)
+    → let l = loop-of c .loop in
+    let g = groups-of (loop-of c) in
+    let s = 16 * g .groups .result in
+    let n = length (g .before .before .before .args .out .now) in
+    (l .done + c .shortest .result ≤ n / s) × (l .done + c .shortest .result ≤ n) × (l .done * s + c .shortest .result * s ≤ length (l .out))
+room c =
+    let l = loop-of c .loop in
+    let g = groups-of (loop-of c) in
+    let s = 16 * g .groups .result in
+    let f = length (g .before .before .before .args .out .now) / s in
+    let h : l .done + c .shortest .result ≤ f = omega (arith, c .shortest .ensures .few, c .before .before .loop-test .taken) in
+    (h, omega arith, omega (arith, run-fits (l .done) (c .shortest .result) f s h))
+
+-- The bank after a run's rows, before anything follows a segment that ended.
+abbrev loop-bank : tie.At-loop Inv-loop2 μ-loop2 Inv-loop μ-loop → EnvelopeBank
+loop-bank c =
+    let b = bank-of (groups-of c) in
+    let l = c .loop in
+    bankOf (b .voices) (b .timing) (l .lanes) (l .u) (l .r) (l .d) (l .scale) (l .base) (l .left)
+
+abbrev counted-bank : tie.After-next-ended Inv-loop2 μ-loop2 Inv-loop μ-loop → EnvelopeBank
+counted-bank c =
+    let b = loop-bank (loop-of (run-of c)) in
+    bankOf (b .voices) (b .timing) (b .lanes) (c .before .before .before .before .before .before .draw-rows .last .1 .1 .1 .1 .0) (b .r) (b .d) (b .scale) (b .base) (c .before .before .count-down .last .0)
+
+counted-lanes : (c : tie.After-next-ended Inv-loop2 μ-loop2 Inv-loop μ-loop)
+    → let b = loop-bank (loop-of (run-of c)) in
+    Lanes (b .timing) (ranLane (groups-of (loop-of (run-of c)) .before .count .result) (run-of c .shortest .result) b) b (counted-bank c)
+counted-lanes c =
+    let l = loop-of (run-of c) in
+    ran-lanes (groups-of l .before .count .result) (run-of c .shortest .result) (loop-bank l) _ _ (l .loop .inv .4 .lanes .sized)
+    (c .before .before .before .before .before .before .draw-rows .ensures .moved) (c .before .before .count-down .ensures)
+
+small : (c : tie.In-loop2 Inv-loop2 μ-loop2 Inv-loop μ-loop) → c .before .loop2 .v < 64
+small c = omega (arith, few (groups-of (loop-of (run-of (c .before .before)))), c .loop2-test .taken)
+
+-- ---- the needs
+
+count-requires : tie.Need-count-requires Inv-loop2 μ-loop2 Inv-loop μ-loop
+count-requires c κs = search needs
+
+groups-requires : tie.Need-groups-requires Inv-loop2 μ-loop2 Inv-loop μ-loop
+groups-requires c κs = search needs
+
+mul-stride : tie.Need-mul-stride Inv-loop2 μ-loop2 Inv-loop μ-loop
+mul-stride c = record { fits = omega (arith, grouped c) }
+
+rem-if1 : tie.Need-rem-if1 Inv-loop2 μ-loop2 Inv-loop μ-loop
+rem-if1 c = omega (arith, grouped c)
+
+returns : tie.Need-returns Inv-loop2 μ-loop2 Inv-loop μ-loop
+returns c =
+    let a = c .before .before .before .before .args in
+    let s = 16 * c .before .groups .result in
+    let e = stride-is (c .before) in
+    let h = c .if1 .taken in
+    (refused-answer (a .self) (a .out .now) s e h, refused-levels (a .self) (a .out .now) s e h)
+
+div-frames : tie.Need-div-frames Inv-loop2 μ-loop2 Inv-loop μ-loop
+div-frames c = omega (arith, grouped (c .before))
+
+loop-holds : tie.Need-loop-holds Inv-loop2 μ-loop2 Inv-loop μ-loop
+loop-holds c =
+    let a = c .before .before .before .before .before .before .before .before .before .before .before .before .args in
+    let s = 16 * c .before .before .before .before .before .before .before .before .before .groups .result in (
+      search needs,
+      search needs,
+      div-mul-le-self _ s,
+      div-le-self _ s,
+      ran-none (c .before .before .before .before .before .before .before .before .before .before .count .result) s (a .self) (a .out .now) (sized (a .self) _ (c .before .before .before .before .before .before .before .before .before .before .before .before .good .0)),
+    )
+
+sub-shortest : tie.Need-sub-shortest Inv-loop2 μ-loop2 Inv-loop μ-loop
+sub-shortest c = search needs
+
+shortest-requires : tie.Need-shortest-requires Inv-loop2 μ-loop2 Inv-loop μ-loop
+shortest-requires c κs = (few (c .before .before .before .before .before .before .before .before .before .before .before .before), omega (arith, c .before .loop-test .taken))
+
+mul-from : tie.Need-mul-from Inv-loop2 μ-loop2 Inv-loop μ-loop
+mul-from c = record { fits = omega (arith, room c) }
+
+mul-draw-rows : tie.Need-mul-draw-rows Inv-loop2 μ-loop2 Inv-loop μ-loop
+mul-draw-rows c = record { fits = omega (arith, room c) }
+
+sub-draw-rows : tie.Need-sub-draw-rows Inv-loop2 μ-loop2 Inv-loop μ-loop
+sub-draw-rows c = omega (arith, room c)
+
+part-draw-rows-start : tie.Need-part-draw-rows-start Inv-loop2 μ-loop2 Inv-loop μ-loop
+part-draw-rows-start c = sub-draw-rows c
+
+part-draw-rows-end : tie.Need-part-draw-rows-end Inv-loop2 μ-loop2 Inv-loop μ-loop
+part-draw-rows-end c = search needs
+
+draw-rows-requires : tie.Need-draw-rows-requires Inv-loop2 μ-loop2 Inv-loop μ-loop
+draw-rows-requires c κs =
+    let g = grouped (c .before .before .before .before .before .before .before .before .before .before .before .before .before .before .before .before .before .before .before) in
+    (g .1, g .2, omega (arith, room (c .before .before .before .before .before .before), c .before .before .before .before .before .draw-rows-arg .given), c .before .before .before .before .before .before .before .before .before .loop .inv .4 .lanes .sized .u)
+
+count-down-requires : tie.Need-count-down-requires Inv-loop2 μ-loop2 Inv-loop μ-loop
+count-down-requires c κs = (few (c .before .before .before .before .before .before .before .before .before .before .before .before .before .before .before .before .before .before .before .before .before .before .before), c .before .before .before .before .before .before .before .before .before .before .before .before .before .loop .inv .4 .lanes .sized .left)
+
+next-ended-requires : tie.Need-next-ended-requires Inv-loop2 μ-loop2 Inv-loop μ-loop
+next-ended-requires c κs = (few (c .before .before .before .before .before .before .before .before .before .before .before .before .before .before .before .before .before .before .before .before .before .before .before .before .before), search needs)
+
+loop2-holds : tie.Need-loop2-holds Inv-loop2 μ-loop2 Inv-loop μ-loop
+loop2-holds c =
+    let b₁ = counted-bank c in
+    let S = counted-lanes c .sized in
+    let e = c .next-ended .ensures in (
+      e .high,
+      e .ended,
+      settle-to _ b₁ b₁ 0 (settle-none _ b₁ S refl) (c .next-ended .result) (search needs) (le-trans (e .high) (few (c .before .before .before .before .before .before .before .before .before .before .before .before .before .before .before .before .before .before .before .before .before .before .before .before .before .before))) (e .passed),
+    )
+
+mul-lane : tie.Need-mul-lane Inv-loop2 μ-loop2 Inv-loop μ-loop
+mul-lane c = record { fits = omega (arith, small c) }
+
+array-copy-out-lane : tie.Need-array-copy-out-lane Inv-loop2 μ-loop2 Inv-loop μ-loop
+array-copy-out-lane c = small c
+
+advance-requires : tie.Need-advance-requires Inv-loop2 μ-loop2 Inv-loop μ-loop
+advance-requires c κs = search needs
+
+mul-lanes : tie.Need-mul-lanes Inv-loop2 μ-loop2 Inv-loop μ-loop
+mul-lanes c = record { fits = omega (arith, small (c .before .before .before .before)) }
+
+array-set-from-lanes : tie.Need-array-set-from-lanes Inv-loop2 μ-loop2 Inv-loop μ-loop
+array-set-from-lanes c = small (c .before .before .before .before)
+
+mul-u : tie.Need-mul-u Inv-loop2 μ-loop2 Inv-loop μ-loop
+mul-u c = record { fits = omega (arith, small (c .before .before .before .before)) }
+
+array-write-u : tie.Need-array-write-u Inv-loop2 μ-loop2 Inv-loop μ-loop
+array-write-u c = small (c .before .before .before .before)
+
+mul-r : tie.Need-mul-r Inv-loop2 μ-loop2 Inv-loop μ-loop
+mul-r c = record { fits = omega (arith, small (c .before .before .before .before)) }
+
+array-write-r : tie.Need-array-write-r Inv-loop2 μ-loop2 Inv-loop μ-loop
+array-write-r c = small (c .before .before .before .before)
+
+mul-d : tie.Need-mul-d Inv-loop2 μ-loop2 Inv-loop μ-loop
+mul-d c = record { fits = omega (arith, small (c .before .before .before .before)) }
+
+array-write-d : tie.Need-array-write-d Inv-loop2 μ-loop2 Inv-loop μ-loop
+array-write-d c = small (c .before .before .before .before)
+
+mul-scale : tie.Need-mul-scale Inv-loop2 μ-loop2 Inv-loop μ-loop
+mul-scale c = record { fits = omega (arith, small (c .before .before .before .before)) }
+
+array-write-scale : tie.Need-array-write-scale Inv-loop2 μ-loop2 Inv-loop μ-loop
+array-write-scale c = small (c .before .before .before .before)
+
+mul-base : tie.Need-mul-base Inv-loop2 μ-loop2 Inv-loop μ-loop
+mul-base c = record { fits = omega (arith, small (c .before .before .before .before)) }
+
+array-write-base : tie.Need-array-write-base Inv-loop2 μ-loop2 Inv-loop μ-loop
+array-write-base c = small (c .before .before .before .before)
+
+mul-left : tie.Need-mul-left Inv-loop2 μ-loop2 Inv-loop μ-loop
+mul-left c = record { fits = omega (arith, small (c .before .before .before .before)) }
+
+array-write-left : tie.Need-array-write-left Inv-loop2 μ-loop2 Inv-loop μ-loop
+array-write-left c = small (c .before .before .before .before)
+
+add-next-ended : tie.Need-add-next-ended Inv-loop2 μ-loop2 Inv-loop μ-loop
+add-next-ended c = record { fits = omega (arith, small (c .before .before .before .before .before)) }
+
+next-ended-requires-2 : tie.Need-next-ended-requires-2 Inv-loop2 μ-loop2 Inv-loop μ-loop
+next-ended-requires-2 c κs = (few (c .before .before .before .before .before .before .before .before .before .before .before .before .before .before .before .before .before .before .before .before .before .before .before .before .before .before .before .before .before .before .before .before .before), omega (arith, c .before .before .before .before .before .loop2-test .taken))
+
+loop2-less : tie.Need-loop2-less Inv-loop2 μ-loop2 Inv-loop μ-loop
+loop2-less c = omega (arith, c .before .before .before .before .before .before .loop2-test .taken, c .next-ended2 .ensures .low)
+
+loop2-again : tie.Need-loop2-again Inv-loop2 μ-loop2 Inv-loop μ-loop
+unfolding blank
+loop2-again c =
+    let a = c .before .before .before .before .before .before .before .before .before .before .before .before .before .before .before .before .before .before .before .before .before .before .before .before .before .before .before .before .before .before .before .before .before .before .before .before .before .args in
+    let l = c .before .before .before .before .before .before .before .loop2 in
+    let b₁ = counted-bank (c .before .before .before .before .before .before .before .before) in
+    let b = bankOf (a .self .voices) (a .self .timing) (l .lanes) (l .u) (l .r) (l .d) (l .scale) (l .base) (l .left) in
+    let e = c .next-ended2 .ensures in
+    let q = c .before .before .before .before .advance in
+    let h = c .before .before .before .before .before .before .loop2-test .taken in
+    let put = settle-put (a .self .timing) b₁ b (l .v) (l .inv .2) (q .result) (small (c .before .before .before .before .before .before)) (l .inv .1 h) (q .ensures) in (
+      e .high,
+      e .ended,
+      settle-to (a .self .timing) b₁ (putLane b (l .v) (q .result)) (l .v + 1) put (c .next-ended2 .result)
+          (e .low) (le-trans (e .high) (few (c .before .before .before .before .before .before .before .before .before .before .before .before .before .before .before .before .before .before .before .before .before .before .before .before .before .before .before .before .before .before .before .before .before .before))) (e .passed),
+    )
+
+add-done : tie.Need-add-done Inv-loop2 μ-loop2 Inv-loop μ-loop
+add-done c = record { fits = omega (arith, room (c .before .before .before .before .before .before .before .before .before .before .before .before .before .before .before), c .before .before .before .before .before .before .before .before .before .before .before .before .before .before .before .before .before .before .before .before .before .before .before .before .before .before .before .before .before .before .before .good .1 .0) }
+
+loop-less : tie.Need-loop-less Inv-loop2 μ-loop2 Inv-loop μ-loop
+loop-less c = omega (arith, c .before .before .before .before .before .before .before .before .before .before .before .before .before .before .before .before .before .loop-test .taken, c .before .before .before .before .before .before .before .before .before .before .before .before .before .before .before .shortest .ensures .some)
+
+loop-again : tie.Need-loop-again Inv-loop2 μ-loop2 Inv-loop μ-loop
+loop-again c =
+    let a = c .before .before .before .before .before .before .before .before .before .before .before .before .before .before .before .before .before .before .before .before .before .before .before .before .before .before .before .before .before .before .before .args in
+    let l = c .before .before .before .before .before .before .before .before .before .before .before .before .before .before .before .before .before .before .loop in
+    let i = c .before .loop2 in
+    let n = c .before .before .before .before .before .before .before .before .before .before .before .before .before .before .before .before .before .before .before .before .before .before .before .before .before .before .before .before .before .count .result in
+    let s = 16 * c .before .before .before .before .before .before .before .before .before .before .before .before .before .before .before .before .before .before .before .before .before .before .before .before .before .before .before .before .groups .result in
+    let run = c .before .before .before .before .before .before .before .before .before .before .before .before .before .before .before .shortest in
+    let drew = c .before .before .before .before .before .before .before .before .draw-rows in
+    let r = room (c .before .before .before .before .before .before .before .before .before .before .before .before .before .before .before) in
+    let b₁ = counted-bank (c .before .before) in
+    let b = bankOf (a .self .voices) (a .self .timing) (l .lanes) (l .u) (l .r) (l .d) (l .scale) (l .base) (l .left) in
+    let b₂ = bankOf (a .self .voices) (a .self .timing) (i .lanes) (i .u) (i .r) (i .d) (i .scale) (i .base) (i .left) in
+    let e : i .v ≡ n = omega (arith, c .loop2-test .left, i .inv .0) in
+    let Z = subst (λ (v : ℕ). Lanes (a .self .timing) (settledLane (a .self .timing) v b₁) b₁ b₂) e (i .inv .2) in (
+      r .0,
+      same-len-mid (l .done * s) (length (l .out) - l .done * s) (l .out) (drew .last .0) (drew .kept .0) ∙ l .inv .1,
+      l .inv .2,
+      l .inv .3,
+      ran-more n s (a .self) b b₁ b₂ (l .done) (run .result) _ (l .out) (drew .last .0) (drew .last .1 .1 .1 .1 .0) (few (c .before .before .before .before .before .before .before .before .before .before .before .before .before .before .before .before .before .before .before .before .before .before .before .before .before .before .before .before)) (l .inv .4)
+          (run .ensures) (drew .ensures) (counted-lanes (c .before .before)) Z (le-trans (le-add-right _ _) (r .2)),
+    )
+
+same-length : tie.Need-same-length Inv-loop2 μ-loop2 Inv-loop μ-loop
+same-length c = search needs
+
+returns-2 : tie.Need-returns-2 Inv-loop2 μ-loop2 Inv-loop μ-loop
+returns-2 c =
+    let a = c .before .before .before .before .before .before .before .before .before .before .before .before .before .before .args in
+    let l = c .before .loop in
+    let n = c .before .before .before .before .before .before .before .before .before .before .before .before .count .result in
+    let s = 16 * c .before .before .before .before .before .before .before .before .before .before .before .groups .result in
+    let e = stride-is (c .before .before .before .before .before .before .before .before .before .before .before) in
+    let S = sized (a .self) _ (c .before .before .before .before .before .before .before .before .before .before .before .before .before .before .good .0) in
+    let b = bankOf (a .self .voices) (a .self .timing) (l .lanes) (l .u) (l .r) (l .d) (l .scale) (l .base) (l .left) in
+    let f : l .done ≡ length (a .out .now) / s = omega (arith, c .loop-test .left) in
+    let R = subst (λ (d : ℕ). Ran n s (a .self) d b (l .out)) f (l .inv .4) in
+    let p : 0 < s = omega (arith, grouped (c .before .before .before .before .before .before .before .before .before .before .before)) in
+    let w : length (a .out .now) % s ≡ 0 = omega (arith, c .before .before .before .before .before .before .before .before .before .before .if1 .left) in (
+      done-answer (a .self) (a .out .now) s e n (c .before .before .before .before .before .before .before .before .before .before .before .before .count .ensures) S b (l .out) w p R,
+      done-levels (a .self) (a .out .now) s e n (c .before .before .before .before .before .before .before .before .before .before .before .before .count .ensures) S b (l .out) w p R (l .inv .1),
+    )
+
+pub process-spec : {M : Type 1} → statement M
+process-spec =
+    tie.close
+    (tie.spec
+    Inv-loop2
+    μ-loop2
+    Inv-loop
+    μ-loop
+    count-requires
+    groups-requires
+    mul-stride
+    rem-if1
+    returns
+    div-frames
+    loop-holds
+    sub-shortest
+    shortest-requires
+    mul-from
+    mul-draw-rows
+    sub-draw-rows
+    part-draw-rows-start
+    part-draw-rows-end
+    draw-rows-requires
+    count-down-requires
+    next-ended-requires
+    loop2-holds
+    mul-lane
+    array-copy-out-lane
+    advance-requires
+    mul-lanes
+    array-set-from-lanes
+    mul-u
+    array-write-u
+    mul-r
+    array-write-r
+    mul-d
+    array-write-d
+    mul-scale
+    array-write-scale
+    mul-base
+    array-write-base
+    mul-left
+    array-write-left
+    add-next-ended
+    next-ended-requires-2
+    loop2-less
+    loop2-again
+    add-done
+    loop-less
+    loop-again
+    same-length
+    returns-2)

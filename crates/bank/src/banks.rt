@@ -1,0 +1,123 @@
+// The bank: its lanes in arrays, one for each number of a segment, so that sixteen of them are drawn
+// at once.
+ghost use mathlib.Core.Path.{_≡_};
+ghost use Prim.Native.Nat.{_≤_, min};
+ghost use Rattle.bank.specs.Banks as Banks;
+ghost use Rattle.bank.specs.Calls as Calls;
+use lane::ACCEPTED;
+use lane::EnvelopeParams;
+use lane::Lane;
+use lane::TOO_MANY_VOICES;
+use timing::Timing;
+
+pub const MAX_VOICES: usize = 64;
+
+// A bank has room for 64 voices, and `voices` of them.
+pub struct EnvelopeBank {
+    pub voices: usize,
+    pub timing: Timing,
+    pub lanes: [Lane; 64],
+    pub u: [f32; 64],
+    pub r: [f32; 64],
+    pub d: [f32; 64],
+    pub scale: [f32; 64],
+    pub base: [f32; 64],
+    pub left: [u32; 64],
+}
+
+// A refusal's number, 0 if the call was accepted, and the bank after it.
+pub struct Answer {
+    pub refusal: u32,
+    pub bank: EnvelopeBank,
+}
+
+// How many voices a bank has whose number of voices says `voices`: no more than there is room for.
+pub(crate) fn count(voices: usize) -> usize
+    ensures { λ r. ⌜ r ≡ min voices 64 ⌝ }
+{
+    if voices < MAX_VOICES {
+        return voices;
+    }
+    MAX_VOICES
+}
+
+// How many groups of 16 lanes hold the voices.
+pub(crate) fn groups(voices: usize) -> usize
+    ensures { λ r. ⌜ r ≡ Calls.groupsOf (min voices 64) ⌝ }
+{
+    if voices <= 16 {
+        return 1;
+    }
+    if voices <= 32 {
+        return 2;
+    }
+    if voices <= 48 {
+        return 3;
+    }
+    4
+}
+
+// Idle envelopes.
+fn idle(voices: usize, params: EnvelopeParams, timing: Timing) -> EnvelopeBank
+    ensures { λ r. ⌜ r ≡ Banks.idle voices params timing ⌝ }
+{
+    let voice = Lane::new(params);
+    let lane = voice.lane;
+    let seg = voice.seg;
+    EnvelopeBank {
+        voices: voices,
+        timing: timing,
+        lanes: [lane; 64],
+        u: [seg.u; 64],
+        r: [seg.r; 64],
+        d: [seg.d; 64],
+        scale: [seg.scale; 64],
+        base: [seg.base; 64],
+        left: [seg.left; 64],
+    }
+}
+
+impl EnvelopeBank {
+    // `voices` idle envelopes, each with `params`. Refused: 1 over 64 voices, 4 a sample rate over
+    // its limit, 3 a time over its limit; beside the number comes the bank of no voices, AMP and
+    // Timing::new(0.0).
+    pub fn new(voices: usize, params: EnvelopeParams, timing: Timing) -> Answer
+        ensures { λ r. ⌜ r ≡ Banks.new (Calls.opening voices params timing) ⌝ }
+    {
+        let refusal = refused(voices, params, timing);
+        if refusal != ACCEPTED {
+            return Answer {
+                refusal: refusal,
+                bank: idle(0, EnvelopeParams::AMP, Timing::new(0.0)),
+            };
+        }
+        Answer {
+            refusal: ACCEPTED,
+            bank: idle(voices, params, timing),
+        }
+    }
+
+    // How many voices it has.
+    pub fn voices(self) -> usize
+        ensures { λ r. ⌜ r ≡ Banks.size self ⌝ }
+    {
+        count(self.voices)
+    }
+
+    // The distance between one frame's levels and the next's in the output of `process`.
+    pub fn stride(self) -> usize
+        ensures { λ r. ⌜ r ≡ Calls.strideOf (Banks.size self) ⌝ }
+    {
+        16 * groups(self.voices)
+    }
+}
+
+// Whether a fresh bank of these is refused.
+fn refused(voices: usize, params: EnvelopeParams, timing: Timing) -> u32
+    ensures { λ r. ⌜ r ≡ Calls.openingRefusal (Calls.opening voices params timing) ⌝ }
+{
+    if voices > MAX_VOICES {
+        return TOO_MANY_VOICES;
+    }
+    lane::refused_fresh(params, timing)
+}

@@ -1,0 +1,16 @@
+// One envelope per voice of a synthesizer: mod.rs's `EnvelopeBank`, with the refusals, tail and lead
+// that document 01 adds. Calls take the bank and answer the one after; readings take it and change
+// nothing.
+mod banks;
+mod calls;
+mod drawing;
+mod readings;
+
+pub use banks::Answer;
+pub use banks::EnvelopeBank;
+pub use banks::MAX_VOICES;
+pub use readings::FramesReading;
+pub use readings::IdleReading;
+pub use readings::LevelReading;
+pub use readings::ParamsReading;
+pub use readings::StageReading;

@@ -1,0 +1,116 @@
+-- An accepted call moves each voice of the bank as its effect moves the voice's history: `kept`, a line for each call, over a law for each kind of
+-- change: none, one voice, all voices, frames.
+use mathlib.Core.Path.{_≡_, refl, ap, _∙_}
+use mathlib.Core.Bool.{Bool, true, false, cond}
+use mathlib.Core.List.{List, [], _∷_}
+use Prim.Native.Nat.{ℕ, zero, suc, _/_, _<_}
+use native.Mathlib.Omega.{arith}
+use borrow.Author.Tests.{ltb-true, eqb-true}
+use lib.Dec.{ltb, eqb}
+use lib.ListN.{replicate}
+use Rattle.timing.specs.declared.Timing.{Timing}
+use Rattle.lane.specs.declared.lanes.Voice.{Voice}
+use Rattle.envelope.specs.declared.envelopes.Envelope.{Envelope}
+use Rattle.bank.specs.declared.banks.EnvelopeBank.{EnvelopeBank}
+use Rattle.bank.specs.Calls as Calls
+use Rattle.bank.specs.Calls.{Call, Known, learned, strideOf, refusal}
+use Rattle.bank.specs.Banks.{voice, size, known, envelope, arrange, put, onAll, withTiming, frame, frames, moved}
+use Rattle.bank.proofs.Frames.{voice-onAll}
+use Rattle.histories.specs.Demand.{Entry, run, step, Effect, enter, copy, only, effect}
+use Rattle.histories.proofs.Rows.{voice-put}
+
+-- The test for a voice was passed, and so were the later tests.
+pub named : (k : Known) (v later : ℕ) → Calls.named k v later ≡ 0 → (v < k .voices) × (later ≡ 0)
+named k v later e = go (ltb v (k .voices)) refl e
+  where
+    go : (t : Bool) → ltb v (k .voices) ≡ t → cond t later 2 ≡ 0 → (v < k .voices) × (later ≡ 0)
+    go true p q = (ltb-true v (k .voices) p, q)
+    go false p q = absurd (omega arith)
+
+-- What an effect copies from is one of n voices.
+abbrev pub Live : ℕ → Effect → Type 0
+Live n (enter es) = Unit {0}
+Live n (copy u) = u < n
+
+-- What an effect makes of the voice w, where the voices stand as in e.
+abbrev pub acted : (ℕ → Envelope) → ℕ → Effect → Envelope
+acted e w (enter es) = run step (e w) es
+acted e w (copy u) = e u
+
+-- The bank b′ is b with the effects x on its voices, and k is known of it.
+pub record Kept (b : EnvelopeBank) (x : ℕ → Effect) (k : Known) (b′ : EnvelopeBank) : Type 0 where
+  pub knows : known b′ ≡ k
+  pub voices : size b′ ≡ size b
+  pub live : (w : ℕ) → Live (size b) (x w)
+  pub at : (w : ℕ) → w < size b → envelope b′ w ≡ acted (envelope b) w (x w)
+
+abbrev alone : Timing → Voice → Envelope
+alone t c = record { voice = c; timing = t }
+
+-- Nothing moves.
+none : (b : EnvelopeBank) → Kept b (λ w. enter []) (known b) b
+none b = record { knows = refl; voices = refl; live = λ w. tt; at = λ w h. refl }
+
+-- The voice v becomes c.
+one : (b : EnvelopeBank) (v : ℕ) (c : Voice) (x : Effect) → Live (size b) x → alone (b .timing) c ≡ acted (envelope b) v x
+    → Kept b (λ w. only v w x) (known b) (put v c b)
+unfolding put arrange
+one b v c x l e =
+    record {
+      knows = refl;
+      voices = refl;
+      live = λ w. alive (eqb w v);
+      at = λ w h. ap (alone (b .timing)) (voice-put b v c w h) ∙ go w (eqb w v) refl;
+    }
+  where
+    alive : (t : Bool) → Live (size b) (cond t x (enter []))
+    alive true = l
+    alive false = tt
+
+    go : (w : ℕ) (t : Bool) → eqb w v ≡ t → alone (b .timing) (cond t c (voice b w)) ≡ acted (envelope b) w (cond t x (enter []))
+    go w true p = rw (eqb-true w v p) e
+    go w false p = refl
+
+-- Each voice c becomes f c, which is what the entries es do to it. b₀ is b with its new timing.
+each : (b b₀ : EnvelopeBank) (f : Voice → Voice) (es : List Entry) → size b₀ ≡ size b → ((w : ℕ) → voice b₀ w ≡ voice b w)
+    → ((c : Voice) → alone (b₀ .timing) (f c) ≡ run step (alone (b .timing) c) es)
+    → Kept b (λ w. enter es) (known b) (onAll f b₀)
+unfolding onAll arrange
+each b b₀ f es n s e =
+    record {
+      knows = ap {B = Known} (λ (n : ℕ). record { voices = n }) n;
+      voices = n;
+      live = λ w. tt;
+      at = λ w h.
+          let i : w < size b₀ = omega arith in
+          ap (alone (b₀ .timing)) (voice-onAll b₀ f w i ∙ ap f (s w)) ∙ e (voice b w);
+    }
+
+-- n frames pass.
+pub kept-frames : (n : ℕ) (b : EnvelopeBank) → Kept b (λ w. enter (replicate n Entry.frame)) (known b) (frames n b)
+unfolding step
+kept-frames zero b = none b
+kept-frames (suc n) b =
+    let now : Kept b (λ w. enter (Entry.frame ∷ [])) (known b) (frame b) = each b b _ (Entry.frame ∷ []) refl (λ w. refl) (λ c. refl) in
+    let then : Kept (frame b) (λ w. enter (replicate n Entry.frame)) (known (frame b)) (frames n (frame b)) = kept-frames n (frame b) in
+    record {
+      knows = then .knows ∙ now .knows;
+      voices = then .voices ∙ now .voices;
+      live = λ w. tt;
+      at = λ w h.
+          let i : w < size (frame b) = omega (arith, now .voices) in
+          then .at w i ∙ ap (λ (e : Envelope). run step e (replicate n Entry.frame)) (now .at w h);
+    }
+
+-- An accepted call.
+pub kept : (b : EnvelopeBank) (c : Call) → refusal (known b) c ≡ 0 → Kept b (effect (known b) c) (learned (known b) c) (moved b c)
+unfolding moved effect refusal step
+kept b (Call.setParams v p) a = one b v _ (enter (Entry.params p ∷ [])) tt refl
+kept b (Call.setAllParams p) a = each b b _ (Entry.params p ∷ []) refl (λ w. refl) (λ c. refl)
+kept b (Call.setTiming t) a = each b (withTiming t b) _ (Entry.timing t ∷ []) refl (λ w. refl) (λ c. refl)
+kept b (Call.trigger v x) a = one b v _ (enter (Entry.trigger x ∷ [])) tt refl
+kept b (Call.release v) a = one b v _ (enter (Entry.release ∷ [])) tt refl
+kept b (Call.reset v) a = one b v _ (enter (Entry.reset ∷ [])) tt refl
+kept b (Call.join v u) a = one b v _ (copy u) (named (known b) u 0 (named (known b) v _ a .1) .0) refl
+kept b (Call.process len) a = kept-frames (len / strideOf (size b)) b
+kept b (Call.ask q) a = none b
