@@ -50,7 +50,7 @@ pub const SUBSTITUTIONS: [Substitution; 7] = [
 ];
 
 /// Lines of ours at the end of a file, which reach what is private in it.
-pub const ADDITIONS: [(&str, &str); 4] = [
+pub const ADDITIONS: [(&str, &str); 5] = [
     ("curve.rs", "use crate::stand_ins::StandIn;\n"),
     ("lane.rs", LANE),
     (
@@ -58,6 +58,7 @@ pub const ADDITIONS: [(&str, &str); 4] = [
         "pub fn unit_of(value: f32) -> f32 {\n    unit(value)\n}\n",
     ),
     ("mod.rs", ENVELOPE),
+    ("mod.rs", BANK),
 ];
 
 /// What is left of a stage, and where the Rust would join an attack that
@@ -89,7 +90,8 @@ pub struct Inside {
     pub rest: u64,
     /// The place at which an attack would begin after the present stage.
     pub place: u64,
-    /// The present segment's base.
+    /// The present segment's scale and base.
+    pub scale: f32,
     pub base: f32,
 }
 
@@ -103,7 +105,26 @@ impl Envelope {
             left: self.seg.left,
             rest: self.lane.rest(&self.seg),
             place: self.lane.place(&self.timing),
+            scale: self.seg.scale,
             base: self.seg.base,
+        }
+    }
+}
+";
+
+/// One voice of a bank, as the single envelope that it is, and the frames left
+/// of its present segment.
+const BANK: &str = "\
+impl EnvelopeBank {
+    pub fn left(&self, voice: usize) -> u32 {
+        self.left[voice]
+    }
+
+    pub fn voice(&self, voice: usize) -> Envelope {
+        Envelope {
+            lane: self.lanes[voice].clone(),
+            seg: self.load(voice),
+            timing: self.timing,
         }
     }
 }

@@ -2,17 +2,17 @@
 //! numbers little-endian. The levels that a call writes follow its reply, four
 //! bytes each.
 //!
-//! A call, 72 bytes: byte 0 its tag, 1..48 settings S or a trigger's kind or a
-//! 32-bit count of frames, 48..72 timing T; what it doesn't use is 0. A reply,
-//! 22 words of 32 bits: the refusal, the settings' 14 fields in their order,
-//! the stage, whether idle, the level, then tail and lead, two words each with
-//! the lower first. S and T are document 01's.
+//! A call, 88 bytes: byte 0 its tag, 1..48 settings S or a trigger's kind or a
+//! 32-bit count of frames, 48..72 timing T, the rest only the bank's; what it
+//! doesn't use is 0. A reply, 22 words of 32 bits: the refusal, the settings'
+//! 14 fields in their order, the stage, whether idle, the level, then tail and
+//! lead, two words each with the lower first. S and T are document 01's.
 
 use crate::report::Bits;
 use crate::rust::envelope::{EnvelopeParams, Stage, StealRestart, TimeUnit, Timing, Trigger};
 
 /// The bytes of a call.
-pub const CALL: usize = 72;
+pub const CALL: usize = 88;
 
 /// The words of a reply, and its bytes.
 const WORDS: usize = 22;
@@ -109,19 +109,13 @@ impl Call {
         match self {
             Self::Fresh(settings, timing) => {
                 bytes[1..48].copy_from_slice(&settings_bytes(settings));
-                bytes[48..].copy_from_slice(&timing_bytes(timing));
+                bytes[48..72].copy_from_slice(&timing_bytes(timing));
             }
             Self::Settings(settings) => {
                 bytes[1..48].copy_from_slice(&settings_bytes(settings));
             }
-            Self::Timing(timing) => bytes[48..].copy_from_slice(&timing_bytes(timing)),
-            Self::Trigger(trigger) => {
-                bytes[1] = match trigger {
-                    Trigger::New => 0,
-                    Trigger::Retrigger => 1,
-                    Trigger::Legato => 2,
-                }
-            }
+            Self::Timing(timing) => bytes[48..72].copy_from_slice(&timing_bytes(timing)),
+            Self::Trigger(trigger) => bytes[1] = kind(*trigger),
             Self::Process(frames) => bytes[1..5].copy_from_slice(&frames.to_le_bytes()),
             Self::Release | Self::Reset | Self::NextLevel => {}
         }
@@ -129,7 +123,19 @@ impl Call {
     }
 }
 
-fn timing_bytes(timing: &Timing) -> [u8; 24] {
+/// The number of a trigger's kind.
+#[must_use]
+pub fn kind(trigger: Trigger) -> u8 {
+    match trigger {
+        Trigger::New => 0,
+        Trigger::Retrigger => 1,
+        Trigger::Legato => 2,
+    }
+}
+
+/// The timing T of a call.
+#[must_use]
+pub fn timing_bytes(timing: &Timing) -> [u8; 24] {
     let mut bytes = [0; 24];
     let numbers = [timing.sample_rate, timing.tempo, timing.scale];
     for (to, number) in bytes.chunks_exact_mut(8).zip(numbers) {
@@ -137,21 +143,6 @@ fn timing_bytes(timing: &Timing) -> [u8; 24] {
     }
     bytes
 }
-
-/// The eleven numbers of the settings, in their order.
-pub const NUMBERS: [&str; 11] = [
-    "delay",
-    "attack",
-    "hold",
-    "decay",
-    "sustain",
-    "release",
-    "attack_curve",
-    "decay_curve",
-    "release_curve",
-    "start",
-    "end",
-];
 
 /// Settings as they travel. The codes are numbers as they came, since a reply
 /// may hold any.
@@ -192,8 +183,39 @@ impl From<&EnvelopeParams> for Settings {
     }
 }
 
+/// The names of the settings' fields, in their order.
+pub const FIELDS: [&str; 14] = [
+    "unit",
+    "delay",
+    "attack",
+    "hold",
+    "decay",
+    "sustain",
+    "release",
+    "attack_curve",
+    "decay_curve",
+    "release_curve",
+    "start",
+    "end",
+    "legato inverted",
+    "restart",
+];
+
+impl Settings {
+    /// Its fields in their order, with every NaN as the one that leaves the
+    /// Rattle.
+    #[must_use]
+    pub fn words(&self) -> [u32; FIELDS.len()] {
+        let mut words = [self.unit; FIELDS.len()];
+        words[1..12].copy_from_slice(&self.numbers.map(|number| number.compared() as u32));
+        words[12..].copy_from_slice(&[self.legato_inverted, self.restart]);
+        words
+    }
+}
+
 /// The settings S of a call.
-fn settings_bytes(p: &EnvelopeParams) -> [u8; 47] {
+#[must_use]
+pub fn settings_bytes(p: &EnvelopeParams) -> [u8; 47] {
     let settings = Settings::from(p);
     let mut bytes = [0; 47];
     bytes[0] = settings.unit as u8;
@@ -222,16 +244,12 @@ impl Reply {
     /// Its bytes, with every NaN as the one that leaves the Rattle.
     #[must_use]
     pub fn bytes(&self) -> [u8; REPLY] {
-        let bits = |number: f32| number.compared() as u32;
         let mut words = [0; WORDS];
         words[0] = self.refusal;
-        words[1] = self.settings.unit;
-        words[2..13].copy_from_slice(&self.settings.numbers.map(bits));
-        words[13] = self.settings.legato_inverted;
-        words[14] = self.settings.restart;
+        words[1..15].copy_from_slice(&self.settings.words());
         words[15] = self.stage;
         words[16] = self.idle;
-        words[17] = bits(self.level);
+        words[17] = self.level.compared() as u32;
         words[18..20].copy_from_slice(&[self.tail as u32, (self.tail >> 32) as u32]);
         words[20..].copy_from_slice(&[self.lead as u32, (self.lead >> 32) as u32]);
         let mut bytes = [0; REPLY];
@@ -290,7 +308,8 @@ mod tests {
         assert_eq!(bytes[38..42], SIGNALLING.to_le_bytes(), "start as given");
         assert_eq!(bytes[42..48], [0, 0, 0, 0x80, 1, 1], "end and the codes");
         assert_eq!(bytes[48..56], 48_000.0_f64.to_le_bytes(), "rate");
-        assert_eq!(bytes[64..], 2.0_f64.to_le_bytes(), "scale");
+        assert_eq!(bytes[64..72], 2.0_f64.to_le_bytes(), "scale");
+        assert_eq!(bytes[72..], [0; 16], "no voices");
         assert_eq!(Call::Trigger(Trigger::Legato).bytes()[..3], [4, 2, 0]);
         assert_eq!(Call::Process(LONGEST).bytes()[..6], [7, 0, 0, 1, 0, 0]);
     }

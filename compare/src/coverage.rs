@@ -144,7 +144,8 @@ fn kind(call: &Call, settings: &Settings) -> Option<usize> {
 }
 
 /// The names, each with its count.
-fn counted(names: &[impl AsRef<str>], counts: &[u64]) -> String {
+#[must_use]
+pub fn counted(names: &[impl AsRef<str>], counts: &[u64]) -> String {
     let parts: Vec<String> = names
         .iter()
         .zip(counts)

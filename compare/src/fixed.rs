@@ -19,9 +19,10 @@ type Build = fn(&mut Case) -> bool;
 
 /// Each case: its name, and what makes it and answers whether it shows what
 /// the name says.
-const CASES: [(&str, Build); 32] = [
+const CASES: [(&str, Build); 33] = [
     ("document 01's sample list", notes::the_sample),
     ("next_level by next_level", notes::one_by_one),
+    ("a reset in mid-attack", notes::reset),
     ("legato on a releasing voice", notes::legato_in_release),
     (
         "inverted legato on a releasing voice",
@@ -92,7 +93,7 @@ pub fn lists() -> Result<Vec<List>, String> {
 }
 
 /// The settings of document 01's sample list.
-const SAMPLE: EnvelopeParams = EnvelopeParams {
+pub(crate) const SAMPLE: EnvelopeParams = EnvelopeParams {
     unit: TimeUnit::Milliseconds,
     delay: 2.0,
     attack: 4.0,
@@ -110,7 +111,7 @@ const SAMPLE: EnvelopeParams = EnvelopeParams {
 };
 
 /// The same with no time at all, for cases that need one or two of them.
-const NONE: EnvelopeParams = EnvelopeParams {
+pub(crate) const NONE: EnvelopeParams = EnvelopeParams {
     delay: 0.0,
     attack: 0.0,
     hold: 0.0,
@@ -120,7 +121,7 @@ const NONE: EnvelopeParams = EnvelopeParams {
 };
 
 /// A rate at which a millisecond is a sample.
-const RATE_1000: Timing = Timing::new(1000.0);
+pub(crate) const RATE_1000: Timing = Timing::new(1000.0);
 
 impl Case {
     fn ask(&mut self, call: Call) -> Vec<f32> {

@@ -5,8 +5,10 @@
 //!   `build.rs`), with [`stand_ins`] and [`simd`] in place of what varies by
 //!   machine or is not among its sources.
 //! - [`library`]: what the static library made from the Rattle exports.
-//! - [`replay`]: the Rattle's program that plays calls on an envelope, asked
-//!   and compared; [`calls`] has the bytes of both directions.
+//! - [`replay`]: the Rattle's program that plays calls on an envelope and on a
+//!   bank, asked; [`stored`]: what it is run on where there is no Rust.
+//! - [`calls`], with the bytes of both directions, and [`comparison`]: the
+//!   single envelope's calls and answers; [`banks`]: the same of the bank.
 //! - [`reference`](mod@reference): the Rust's envelope, with what document 01 adds to it.
 //! - [`random`], [`floats`], [`times`] and [`settings`]: the inputs; [`fixed`]
 //!   and [`random_lists`]: lists of calls, with the Rust's answers in [`lists`].
@@ -14,10 +16,13 @@
 //!   what it reached, and what it answers.
 //!
 //! `cargo run --release --bin numbers` compares the number helpers, `--bin
-//! envelopes` the single envelope, and `--bin bench` measures the helpers.
+//! envelopes` the single envelope, `--bin banks` the bank, and `--bin bench`
+//! measures the helpers.
 
 pub mod arguments;
+pub mod banks;
 pub mod calls;
+pub mod comparison;
 pub mod coverage;
 pub mod fixed;
 pub mod floats;
@@ -31,6 +36,7 @@ pub mod report;
 pub mod settings;
 pub mod simd;
 pub mod stand_ins;
+pub mod stored;
 pub mod times;
 
 /// The derived Rust.

@@ -3,6 +3,7 @@
 
 use crate::calls::{Call, Reply};
 use crate::reference;
+use crate::replay::Asked;
 use crate::rust::envelope::Envelope;
 
 /// A call and what the Rust says to it.
@@ -57,15 +58,6 @@ impl List {
         &self.levels[before..]
     }
 
-    /// The bytes that ask all of it.
-    #[must_use]
-    pub fn call_bytes(&self) -> Vec<u8> {
-        self.steps
-            .iter()
-            .flat_map(|step| step.call.bytes())
-            .collect()
-    }
-
     /// The bytes that the Rust's answers make.
     #[must_use]
     pub fn reply_bytes(&self) -> Vec<u8> {
@@ -78,5 +70,14 @@ impl List {
             }
         }
         bytes
+    }
+}
+
+impl Asked for List {
+    fn call_bytes(&self) -> Vec<u8> {
+        self.steps
+            .iter()
+            .flat_map(|step| step.call.bytes())
+            .collect()
     }
 }

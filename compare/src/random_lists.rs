@@ -6,7 +6,7 @@ use crate::calls::{Call, LONGEST};
 use crate::lists::List;
 use crate::random::Random;
 use crate::reference;
-use crate::rust::envelope::{Envelope, EnvelopeParams, Stage, Trigger};
+use crate::rust::envelope::{Envelope, EnvelopeParams, Stage, Timing, Trigger};
 use crate::settings::{self, Style};
 
 /// The most calls of a list.
@@ -56,8 +56,8 @@ fn style(random: &mut Random) -> (Style, usize) {
 fn list(random: &mut Random, name: String) -> List {
     let (style, levels) = style(random);
     let mut list = List::new(name);
-    let first = fresh(random, style);
-    list.ask(first, SHORT_LEAD);
+    let (settings, timing) = fresh(random, style);
+    list.ask(Call::Fresh(settings, timing), SHORT_LEAD);
     for _ in 0..random.below(CALLS) {
         let room = levels.saturating_sub(list.levels.len());
         let call = call(random, style, list.envelope(), room);
@@ -67,7 +67,9 @@ fn list(random: &mut Random, name: String) -> List {
     list
 }
 
-fn fresh(random: &mut Random, style: Style) -> Call {
+/// Settings and timing to begin with, either of them over its limit now and
+/// then.
+pub fn fresh(random: &mut Random, style: Style) -> (EnvelopeParams, Timing) {
     let mut settings = settings::settings(random, style);
     let mut timing = settings::timing(random, style);
     if random.below(25) == 0 {
@@ -76,11 +78,11 @@ fn fresh(random: &mut Random, style: Style) -> Call {
     if random.below(25) == 0 {
         exceed(random, &mut settings);
     }
-    Call::Fresh(settings, timing)
+    (settings, timing)
 }
 
 /// Sets one of the times over the limit.
-fn exceed(random: &mut Random, p: &mut EnvelopeParams) {
+pub fn exceed(random: &mut Random, p: &mut EnvelopeParams) {
     let over = settings::time_over(random);
     match random.below(5) {
         0 => p.delay = over,
@@ -103,8 +105,8 @@ fn call(random: &mut Random, style: Style, envelope: &Envelope, room: usize) -> 
     match random.below(100) {
         0..36 => Call::Process(frames(random, style, envelope, room)),
         36..46 => Call::NextLevel,
-        46..63 => changed_settings(random, style, envelope),
-        63..71 => changed_timing(random, style, envelope),
+        46..63 => Call::Settings(changed_settings(random, style, envelope)),
+        63..71 => Call::Timing(changed_timing(random, style, envelope)),
         71..78 => Call::Trigger(Trigger::New),
         78..85 => Call::Trigger(Trigger::Retrigger),
         85..91 => Call::Trigger(Trigger::Legato),
@@ -143,7 +145,8 @@ fn frames(random: &mut Random, style: Style, envelope: &Envelope, room: usize) -
     }
 }
 
-fn changed_settings(random: &mut Random, style: Style, envelope: &Envelope) -> Call {
+/// New settings for `envelope`, many of them about its present stage.
+pub fn changed_settings(random: &mut Random, style: Style, envelope: &Envelope) -> EnvelopeParams {
     let mut settings = *envelope.params();
     match random.below(20) {
         0 => {}
@@ -157,7 +160,7 @@ fn changed_settings(random: &mut Random, style: Style, envelope: &Envelope) -> C
             }
         }
     }
-    Call::Settings(settings)
+    settings
 }
 
 /// The present stage's time near what has passed of it, in milliseconds at
@@ -178,7 +181,8 @@ fn around_elapsed(random: &mut Random, envelope: &Envelope, p: &mut EnvelopePara
     }
 }
 
-fn changed_timing(random: &mut Random, style: Style, envelope: &Envelope) -> Call {
+/// A new timing for `envelope`.
+pub fn changed_timing(random: &mut Random, style: Style, envelope: &Envelope) -> Timing {
     let mut timing = *envelope.timing();
     match random.below(12) {
         0 => {}
@@ -187,12 +191,13 @@ fn changed_timing(random: &mut Random, style: Style, envelope: &Envelope) -> Cal
         5..8 => timing.sample_rate = settings::timing(random, style).sample_rate,
         _ => timing = settings::timing(random, style),
     }
-    Call::Timing(timing)
+    timing
 }
 
 #[cfg(test)]
 mod tests {
     use super::*;
+    use crate::replay::Asked;
 
     #[test]
     fn a_seed_makes_the_same_lists() {

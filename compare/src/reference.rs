@@ -11,7 +11,8 @@ pub const LIMIT: f32 = 1_048_576.0;
 /// Frames that a copy is run on at most.
 pub const RUN_ON: u64 = 300_000;
 
-const ACCEPTED: u32 = 0;
+/// In a refusal's place.
+pub const ACCEPTED: u32 = 0;
 /// The refusal of a time over the limit.
 pub const TIME: u32 = 3;
 /// The refusal of a sample rate over the limit.
@@ -27,6 +28,12 @@ pub fn refused() -> Envelope {
 /// levels at its end.
 pub fn call(envelope: &mut Envelope, call: &Call, levels: &mut Vec<f32>) -> Reply {
     let refusal = apply(envelope, call, levels);
+    told(refusal, envelope)
+}
+
+/// What is told of `envelope` beside a refusal's number.
+#[must_use]
+pub fn told(refusal: u32, envelope: &Envelope) -> Reply {
     Reply {
         refusal,
         settings: Settings::from(envelope.params()),
@@ -42,10 +49,7 @@ pub fn call(envelope: &mut Envelope, call: &Call, levels: &mut Vec<f32>) -> Repl
 fn apply(envelope: &mut Envelope, call: &Call, levels: &mut Vec<f32>) -> u32 {
     match *call {
         Call::Fresh(settings, timing) => {
-            let refusal = match rate_refusal(&timing) {
-                ACCEPTED => time_refusal(&settings),
-                rate => rate,
-            };
+            let refusal = fresh_refusal(&settings, &timing);
             *envelope = match refusal {
                 ACCEPTED => Envelope::new(settings, timing),
                 _ => refused(),
@@ -73,7 +77,18 @@ fn apply(envelope: &mut Envelope, call: &Call, levels: &mut Vec<f32>) -> u32 {
     ACCEPTED
 }
 
-fn rate_refusal(timing: &Timing) -> u32 {
+/// The refusal of a fresh envelope, or of a bank for its settings or timing.
+#[must_use]
+pub fn fresh_refusal(settings: &EnvelopeParams, timing: &Timing) -> u32 {
+    match rate_refusal(timing) {
+        ACCEPTED => time_refusal(settings),
+        rate => rate,
+    }
+}
+
+/// The refusal of a timing.
+#[must_use]
+pub fn rate_refusal(timing: &Timing) -> u32 {
     if timing.sample_rate > f64::from(LIMIT) {
         RATE
     } else {
@@ -81,7 +96,9 @@ fn rate_refusal(timing: &Timing) -> u32 {
     }
 }
 
-fn time_refusal(p: &EnvelopeParams) -> u32 {
+/// The refusal of settings.
+#[must_use]
+pub fn time_refusal(p: &EnvelopeParams) -> u32 {
     let times = [p.delay, p.attack, p.hold, p.decay, p.release];
     if times.into_iter().any(|time| time > LIMIT) {
         TIME
@@ -106,7 +123,9 @@ pub fn count(envelope: &Envelope, stage: Stage) -> u64 {
     envelope.timing().samples(time, p.unit)
 }
 
-fn tail(envelope: &Envelope) -> u64 {
+/// 0 when idle, else the release's count.
+#[must_use]
+pub fn tail(envelope: &Envelope) -> u64 {
     if envelope.is_idle() {
         0
     } else {
@@ -115,7 +134,8 @@ fn tail(envelope: &Envelope) -> u64 {
 }
 
 /// Frames until Sustain, if only frames follow.
-fn lead(envelope: &Envelope) -> u64 {
+#[must_use]
+pub fn lead(envelope: &Envelope) -> u64 {
     let inside = envelope.inside();
     let count = |stage| count(envelope, stage);
     match envelope.stage() {

@@ -28,6 +28,17 @@ pub(super) fn one_by_one(case: &mut Case) -> bool {
     stages.len() == 7 && case.stands(Stage::Idle, 0.0)
 }
 
+pub(super) fn reset(case: &mut Case) -> bool {
+    case.note(EnvelopeParams {
+        end: 0.25,
+        ..SAMPLE
+    });
+    case.frames(4);
+    case.ask(Call::Reset);
+    let at_once = case.stands(Stage::Idle, 0.25) && case.lead() == Some(0);
+    at_once && case.frames(2) == [0.25, 0.25]
+}
+
 /// A voice that is 2 of 8 samples into its release.
 fn releasing(case: &mut Case, legato_inverted: bool) {
     case.note(EnvelopeParams {

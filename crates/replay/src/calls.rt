@@ -1,4 +1,4 @@
-// Reading a call from its 72 bytes, and making it.
+// Reading a call from its 88 bytes, and making it on the envelope.
 ghost use Prim.Native.Nat.{_+_, _≤_, _<_, _^_};
 ghost use lib.ListN.{length};
 use envelope::Answer;
@@ -32,10 +32,16 @@ fn f32_at(b: &[u8], at: usize) -> f32
     numbers::f32_from_bits(u32_at(b, at) as u32)
 }
 
+fn u64_at(b: &[u8], at: usize) -> u64
+    requires { ⌜ at + 8 ≤ length (now b) ⌝ }
+{
+    u32_at(b, at) + u32_at(b, at + 4) * 0x1_0000_0000
+}
+
 fn f64_at(b: &[u8], at: usize) -> f64
     requires { ⌜ at + 8 ≤ length (now b) ⌝ }
 {
-    numbers::f64_from_bits(u32_at(b, at) + u32_at(b, at + 4) * 0x1_0000_0000)
+    numbers::f64_from_bits(u64_at(b, at))
 }
 
 fn unit(x: u8) -> TimeUnit {
@@ -54,7 +60,7 @@ fn restart(x: u8) -> StealRestart {
     }
 }
 
-fn kind(x: u8) -> Trigger {
+pub(crate) fn kind(x: u8) -> Trigger {
     match x {
         0 => Trigger::New,
         1 => Trigger::Retrigger,
@@ -63,8 +69,8 @@ fn kind(x: u8) -> Trigger {
 }
 
 // The settings S.
-fn params(b: &[u8]) -> EnvelopeParams
-    requires { ⌜ 72 ≤ length (now b) ⌝ }
+pub(crate) fn params(b: &[u8]) -> EnvelopeParams
+    requires { ⌜ 88 ≤ length (now b) ⌝ }
 {
     EnvelopeParams {
         unit: unit(b[1]),
@@ -85,14 +91,40 @@ fn params(b: &[u8]) -> EnvelopeParams
 }
 
 // The timing T.
-fn timing(b: &[u8]) -> Timing
-    requires { ⌜ 72 ≤ length (now b) ⌝ }
+pub(crate) fn timing(b: &[u8]) -> Timing
+    requires { ⌜ 88 ≤ length (now b) ⌝ }
 {
     Timing {
         sample_rate: f64_at(b, 48),
         tempo: f64_at(b, 56),
         scale: f64_at(b, 64),
     }
+}
+
+// The voice that is changed or read, or how many voices.
+pub(crate) fn voice(b: &[u8]) -> usize
+    requires { ⌜ 88 ≤ length (now b) ⌝ }
+{
+    u64_at(b, 72) as usize
+}
+
+// The voice that another joins.
+pub(crate) fn source(b: &[u8]) -> usize
+    requires { ⌜ 88 ≤ length (now b) ⌝ }
+{
+    u64_at(b, 80) as usize
+}
+
+// A block's length, at most `most`.
+pub(crate) fn count(b: &[u8], most: usize) -> usize
+    requires { ⌜ 88 ≤ length (now b) ⌝ }
+    ensures { λ r. ⌜ r ≤ most ⌝ }
+{
+    let count = u32_at(b, 1) as usize;
+    if count < most {
+        return count;
+    }
+    most
 }
 
 fn accepted(e: Envelope) -> Answer {
@@ -104,7 +136,7 @@ fn accepted(e: Envelope) -> Answer {
 
 // The call's answer. Frames are drawn apart.
 pub(crate) fn called(e: Envelope, b: &[u8]) -> Answer
-    requires { ⌜ 72 ≤ length (now b) ⌝ }
+    requires { ⌜ 88 ≤ length (now b) ⌝ }
 {
     match b[0] {
         1 => Envelope::fresh(params(b), timing(b)),
@@ -119,18 +151,14 @@ pub(crate) fn called(e: Envelope, b: &[u8]) -> Answer
 
 // How many levels the call draws, at most `most`.
 pub(crate) fn frames(b: &[u8], most: usize) -> usize
-    requires { ⌜ (72 ≤ length (now b)) × (1 ≤ most) ⌝ }
+    requires { ⌜ (88 ≤ length (now b)) × (1 ≤ most) ⌝ }
     ensures { λ r. ⌜ r ≤ most ⌝ }
 {
     if b[0] == 8 {
         return 1;
     }
     if b[0] == 7 {
-        let frames = u32_at(b, 1) as usize;
-        if frames < most {
-            return frames;
-        }
-        return most;
+        return count(b, most);
     }
     0
 }

@@ -1,21 +1,37 @@
-// Answers the calls of an envelope: 72 bytes of standard input to a call, 88 bytes of standard
-// output to its answer, and four more for each level. The comparison with the Rust drives it, and the
-// files stdin and stdout hold a few of the Rust's answers.
+// Answers the calls of an envelope and of a bank: 88 bytes of standard input to a call. The
+// comparison with the Rust drives it, and the files stdin and stdout hold a few of the Rust's answers.
 //
-// A call: its tag, the settings S at 1, the timing T at 48, as document 01's event list has them.
-// Tags: 1 fresh, 2 settings, 3 timing, 4 trigger (its kind at 1), 5 release, 6 reset, 7 process (the
-// number of frames at 1, in four bytes, at most 65,536), 8 next level.
+// A call: its tag, the settings S at 1, the timing T at 48, as document 01's event list has them; then
+// two voices' numbers, eight bytes each, at 72 and at 80.
 //
-// An answer, in words of four bytes: the refusal's number, the settings after the call, the stage,
-// whether it is idle, the level's bits, tail and lead (two words each); then the levels' bits.
+// Tags of the envelope: 1 fresh, 2 settings, 3 timing, 4 trigger (its kind at 1), 5 release, 6 reset,
+// 7 process (the number of frames at 1, in four bytes, at most 65,536), 8 next level. Its answer, in
+// words of four bytes: the refusal's number, the settings after the call, the stage, whether it is
+// idle, the level's bits, tail and lead (two words each); then the levels' bits.
+//
+// Tags of the bank: 9 open (how many voices at 72), 10 settings, 11 settings for all, 12 timing,
+// 13 trigger, 14 release, 15 reset, 16 join (from the voice at 80), 17 process (the length of the
+// output at 1, at most 262,144), 18 readings. Its answer is the refusal's number, one word; to a
+// process all of its output follows, whatever was written to it. To readings the answer is that of the
+// envelope, with the number that refused the settings' reading; then those of stage, idle, level, tail
+// and lead, and voices and stride (two words each).
+mod bank_calls;
+mod bank_replies;
 mod calls;
 mod replies;
 
 ghost use Prim.Native.Nat.{_≤_};
 ghost use lib.ListN.{length};
+use bank::EnvelopeBank;
 use envelope::Envelope;
 use lane::EnvelopeParams;
 use timing::Timing;
+
+// What the calls are made on.
+struct State {
+    envelope: Envelope,
+    bank: EnvelopeBank,
+}
 
 // One frame by `after_frame`, or a block.
 fn drawn(e: Envelope, tag: u8, frames: usize, levels: &mut [f32]) -> Envelope
@@ -29,20 +45,53 @@ fn drawn(e: Envelope, tag: u8, frames: usize, levels: &mut [f32]) -> Envelope
     e.after_process(&mut levels[0..frames])
 }
 
+// The envelope after a call, which is answered.
+fn envelope_answered(e: Envelope, call: &[u8], levels: &mut [f32]) -> Envelope
+    requires { ⌜ (88 ≤ length (now call)) × (65536 ≤ length (now levels)) ⌝ }
+{
+    let answer = calls::called(e, call);
+    let frames = calls::frames(call, 65536);
+    let after = drawn(answer.envelope, call[0], frames, levels);
+    replies::write_reply(answer.refusal, after);
+    replies::write_levels(levels, frames);
+    after
+}
+
+// The state after a call, which is answered.
+fn answered(s: State, call: &[u8], levels: &mut [f32]) -> State
+    requires { ⌜ (88 ≤ length (now call)) × (262144 ≤ length (now levels)) ⌝ }
+{
+    let e = s.envelope;
+    let b = s.bank;
+    if call[0] > 8 {
+        return State {
+            envelope: e,
+            bank: bank_calls::answered(b, call, levels),
+        };
+    }
+    State {
+        envelope: envelope_answered(e, call, levels),
+        bank: b,
+    }
+}
+
 fn main() {
-    let mut call = [0u8; 72];
-    let mut levels = [0f32; 65536];
-    let mut e = Envelope::fresh(EnvelopeParams::AMP, Timing::new(0.0)).envelope;
+    let mut call = [0u8; 88];
+    let mut levels = [0f32; 262144];
+    let fresh = Envelope::fresh(EnvelopeParams::AMP, Timing::new(0.0));
+    let opened = EnvelopeBank::new(0, EnvelopeParams::AMP, Timing::new(0.0));
+    let e = fresh.envelope;
+    let b = opened.bank;
+    let mut state = State {
+        envelope: e,
+        bank: b,
+    };
     let mut calls: u64 = 0xffff_ffff_ffff_ffff;
     while calls > 0 {
-        if io::read_full(0, &mut call) < 72 {
+        if io::read_full(0, &mut call) < 88 {
             return;
         }
-        let answer = calls::called(e, &call);
-        let frames = calls::frames(&call, 65536);
-        e = drawn(answer.envelope, call[0], frames, &mut levels);
-        replies::write_reply(answer.refusal, e);
-        replies::write_levels(&levels, frames);
+        state = answered(state, &call, &mut levels);
         calls -= 1;
     }
 }

@@ -1,8 +1,9 @@
-// Writing an answer, 22 words of four bytes, and levels.
+// Writing an answer in words of four bytes, and levels.
 ghost use mathlib.Core.Path.{_≡_};
 ghost use Prim.Native.Nat.{_+_, _*_, _≤_};
 ghost use lib.ListN.{length};
 use envelope::Envelope;
+use lane::EnvelopeParams;
 use lane::Stage;
 use lane::StealRestart;
 use timing::TimeUnit;
@@ -18,7 +19,7 @@ fn byte(word: u32, k: usize) -> u8 {
 }
 
 // Four bytes for each word, the lowest first.
-fn put_words(bytes: &mut [u8], words: &[u32], count: usize)
+pub(crate) fn put_words(bytes: &mut [u8], words: &[u32], count: usize)
     requires { ⌜ (count ≤ length (now words)) × (4 * count ≤ length (now bytes)) ⌝ }
 {
     let end = 4 * count;
@@ -59,15 +60,32 @@ fn flag(x: bool) -> u32 {
     if x { 1 } else { 0 }
 }
 
-// The answer to a call that left the envelope e.
-fn reply(refusal: u32, e: Envelope) -> [u32; 22]
+// The lower word of a number, and the higher.
+pub(crate) fn low(x: u64) -> u32 {
+    (x % 0x1_0000_0000) as u32
+}
+
+pub(crate) fn high(x: u64) -> u32 {
+    (x / 0x1_0000_0000) as u32
+}
+
+// What an answer tells of an envelope or a voice.
+pub(crate) struct Told {
+    pub params: EnvelopeParams,
+    pub stage: Stage,
+    pub idle: bool,
+    pub level: f32,
+    pub tail: u64,
+    pub lead: u64,
+}
+
+fn reply(refusal: u32, t: Told) -> [u32; 22]
     ensures { λ r. ⌜ 22 ≡ length r ⌝ }
 {
-    let p = e.params_now();
+    let p = t.params;
     let unit = p.unit;
     let restart = p.steal_restart;
-    let tail = e.tail_now();
-    let lead = e.lead_now();
+    let stage = t.stage;
     [
         refusal,
         unit_code(unit),
@@ -84,22 +102,37 @@ fn reply(refusal: u32, e: Envelope) -> [u32; 22]
         numbers::f32_to_bits(p.end),
         flag(p.legato_inverted),
         restart_code(restart),
-        stage_code(e.stage_now()),
-        flag(e.is_idle_now()),
-        numbers::f32_to_bits(e.level_now()),
-        (tail % 0x1_0000_0000) as u32,
-        (tail / 0x1_0000_0000) as u32,
-        (lead % 0x1_0000_0000) as u32,
-        (lead / 0x1_0000_0000) as u32,
+        stage_code(stage),
+        flag(t.idle),
+        numbers::f32_to_bits(t.level),
+        low(t.tail),
+        high(t.tail),
+        low(t.lead),
+        high(t.lead),
     ]
+}
+
+// What is told after the number of a refusal, 22 words with it.
+pub(crate) fn write_told(refusal: u32, t: Told) {
+    let words = reply(refusal, t);
+    let mut bytes = [0u8; 88];
+    put_words(&mut bytes, &words, 22);
+    io::write_all(1, &bytes);
 }
 
 // The answer to a call that left the envelope e.
 pub(crate) fn write_reply(refusal: u32, e: Envelope) {
-    let words = reply(refusal, e);
-    let mut bytes = [0u8; 88];
-    put_words(&mut bytes, &words, 22);
-    io::write_all(1, &bytes);
+    write_told(
+        refusal,
+        Told {
+            params: e.params_now(),
+            stage: e.stage_now(),
+            idle: e.is_idle_now(),
+            level: e.level_now(),
+            tail: e.tail_now(),
+            lead: e.lead_now(),
+        },
+    );
 }
 
 // The bits of up to 1024 levels, from levels[from] on.
