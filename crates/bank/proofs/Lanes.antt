@@ -7,9 +7,9 @@ use native.Mathlib.Omega.{arith}
 use native.Mathlib.Nat.{not-suc-le-zero, le-of-suc-le-suc}
 use borrow.Author.Tests.{eqb-true, eqb-false}
 use lib.Dec.{eqb}
+use lib.Ieee.{Float, nan}
 use lib.ListN.{length, getD, set, length-set}
 use lib.Seq.{ext-getD, getD-set-same, getD-set-other}
-use lib.Ieee.{Float, nan}
 use Rattle.timing.specs.declared.Timing.{Timing}
 use Rattle.lane.specs.declared.lanes.Lane.{Lane}
 use Rattle.lane.specs.declared.lanes.Voice.{Voice}

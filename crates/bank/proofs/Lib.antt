@@ -3,6 +3,7 @@ pub mod Lanes
 pub mod Frames
 mod Owned
 mod Spread
+mod Readings
 mod Lent
 mod Rows
 mod Groups

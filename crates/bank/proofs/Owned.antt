@@ -4,8 +4,8 @@ use lib.ListN.{length-map}
 use mir.Val.{Val}
 use denote.Laws.{Is}
 use Rattle.bank.specs.declared.banks.EnvelopeBank.{EnvelopeBank}
-use Rattle.bank.proofs.banks.EnvelopeBank.{the-row}
 use Rattle.bank.proofs.Lanes.{Sized}
+use Rattle.bank.proofs.banks.EnvelopeBank.{the-row}
 
 pub sized : (b : EnvelopeBank) (vs : List Val) → Is the-row b vs → Sized b
 sized b vs g =

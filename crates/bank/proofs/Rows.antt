@@ -11,7 +11,7 @@ use lib.ListN.{length, getD, take, drop}
 use Rattle.envelope.specs.Parts.{Filled}
 use Rattle.envelope.proofs.Fill.{split}
 use Rattle.envelope.proofs.Runs.{u-next}
-use Rattle.bank.specs.Parts.{levelsAt, stepsAt, movedAt, drawnAt, GroupDrawn}
+use Rattle.bank.specs.Parts.{levelsAt, stepsAt, drawnAt, GroupDrawn}
 use Rattle.bank.proofs.Lent.{part-before, part-inside, part-after, rest-lent, rest-back}
 
 pub row-fits : (k rows stride : ℕ) → k < rows → k * stride + stride ≤ rows * stride

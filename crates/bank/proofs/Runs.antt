@@ -3,7 +3,7 @@ use mathlib.Core.Path.{_≡_, refl, sym, ap, _∙_}
 use mathlib.Core.Bool.{Bool, true, false, cond}
 use mathlib.Core.Logic.{_⊎_, inl, inr}
 use mathlib.Core.List.{List}
-use Prim.Native.Nat.{ℕ, zero, suc, _+_, _-_, _≤_, _<_, max}
+use Prim.Native.Nat.{ℕ, _+_, _-_, _≤_, _<_}
 use native.Mathlib.Omega.{arith}
 use borrow.Author.Tests.{lt-ltb, le-ltb, eq-eqb, ne-eqb, eqb-true, eqb-false}
 use lib.Dec.{ltb, eqb}
@@ -13,8 +13,8 @@ use Rattle.timing.specs.declared.Timing.{Timing}
 use Rattle.curve.specs.Segments.{untimed, Inside}
 use Rattle.lane.specs.declared.lanes.Voice.{Voice}
 use Rattle.lane.specs.Planning.{advance}
-use Rattle.lane.specs.Voices as Voices
 use Rattle.lane.proofs.Frames.{after, frames-untimed, frames-inside}
+use Rattle.lane.specs.Voices as Voices
 use Rattle.envelope.specs.Parts.{Filled}
 use Rattle.envelope.proofs.Fill.{split}
 use Rattle.envelope.proofs.Runs.{run-ends}

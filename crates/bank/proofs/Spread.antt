@@ -7,8 +7,8 @@ use native.Mathlib.Omega.{arith}
 use borrow.Author.Tests.{ltb-true, lt-ltb, le-ltb, eq-eqb, ne-eqb}
 use lib.Dec.{ltb, eqb}
 use Rattle.numbers.specs.Constants as Constants
-use Rattle.timing.specs.Clock as Clock
 use Rattle.timing.specs.declared.Timing.{Timing}
+use Rattle.timing.specs.Clock as Clock
 use Rattle.lane.specs.Settings.{amp}
 use Rattle.lane.specs.declared.lanes.Voice.{Voice}
 use Rattle.envelope.proofs.Fill.{split}
@@ -17,7 +17,7 @@ use Rattle.bank.specs.declared.banks.Answer.{Answer}
 use Rattle.bank.specs.Calls.{Opening, Call, refusal, openingRefusal, opened}
 use Rattle.bank.specs.Banks.{voice, size, known, arrange, put, onAll, withTiming, idle, new, moved, answer}
 use Rattle.bank.specs.Parts.{spread, answered}
-use Rattle.bank.proofs.Lanes.{Sized, Lanes, lanes-arranged, lanes-put, lanes-same, arrange-ext, putLane}
+use Rattle.bank.proofs.Lanes.{Sized, Lanes, lanes-arranged, lanes-put, arrange-ext, putLane}
 
 -- Lane w where the voices from a to e are changed.
 abbrev pub within : ℕ → ℕ → (Voice → Voice) → EnvelopeBank → ℕ → Voice

@@ -8,7 +8,7 @@ use native.Mathlib.Omega.{arith}
 use native.Mathlib.Nat.{add-mul, div-add-mod', mod-lt, div-lt-iff-lt-mul}
 use borrow.Author.Tests.{lt-ltb, le-ltb, eq-eqb, ne-eqb}
 use borrow.Rule.Slice.PartMut.{putMid}
-use lib.Dec.{ltb, eqb}
+use lib.Dec.{ltb}
 use lib.Ieee.{Float, nan}
 use lib.ListN.{length, getD, take}
 use lib.Seq.{ext-getD}
@@ -16,8 +16,8 @@ use Rattle.numbers.specs.Constants as Constants
 use Rattle.timing.specs.declared.Timing.{Timing}
 use Rattle.curve.specs.Segments as Segments
 use Rattle.lane.specs.declared.lanes.Voice.{Voice}
-use Rattle.lane.specs.Voices as Voices
 use Rattle.lane.proofs.Frames.{frames-add}
+use Rattle.lane.specs.Voices as Voices
 use Rattle.envelope.proofs.Fill.{split}
 use Rattle.envelope.proofs.Runs.{levelAt, level-within}
 use Rattle.bank.specs.declared.banks.EnvelopeBank.{EnvelopeBank}

@@ -8,11 +8,11 @@ use Rattle.lane.specs.declared.stages.Stage.{Stage}
 use Rattle.envelope.specs.declared.envelopes.Envelope.{Envelope}
 use Rattle.envelope.specs.Envelopes as Envelopes
 use Rattle.bank.specs.declared.banks.EnvelopeBank.{EnvelopeBank}
-use Rattle.bank.specs.declared.readings.ParamsReading.{ParamsReading}
-use Rattle.bank.specs.declared.readings.StageReading.{StageReading}
-use Rattle.bank.specs.declared.readings.LevelReading.{LevelReading}
-use Rattle.bank.specs.declared.readings.IdleReading.{IdleReading}
-use Rattle.bank.specs.declared.readings.FramesReading.{FramesReading}
+use Rattle.bank.specs.declared.calls.ParamsReading.{ParamsReading}
+use Rattle.bank.specs.declared.calls.StageReading.{StageReading}
+use Rattle.bank.specs.declared.calls.LevelReading.{LevelReading}
+use Rattle.bank.specs.declared.calls.IdleReading.{IdleReading}
+use Rattle.bank.specs.declared.calls.FramesReading.{FramesReading}
 use Rattle.bank.specs.Calls.{Query, Call, Known, strideOf, ifAccepted, refusal}
 use Rattle.bank.specs.Banks.{size, known, envelope, rows}
 

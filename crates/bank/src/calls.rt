@@ -1,11 +1,13 @@
-// The calls that change voices: settings, timing, notes, and a voice that joins another.
+// The calls that change voices (settings, timing, notes, a voice that joins another), and what is
+// read of one voice.
 ghost use mathlib.Core.Path.{_≡_};
 ghost use mathlib.Core.Bool.{cond};
-ghost use Prim.Native.Nat.{_+_, _≤_, min};
+ghost use Prim.Native.Nat.{_+_, _≤_, _<_, min};
 ghost use lib.Dec.{ltb};
 ghost use Rattle.bank.specs.Banks as Banks;
-ghost use Rattle.bank.specs.Calls.{Call, ifAccepted};
+ghost use Rattle.bank.specs.Calls.{Call, Query};
 ghost use Rattle.bank.specs.Parts as Parts;
+ghost use Rattle.bank.specs.Replies as Replies;
 use crate::banks::Answer;
 use crate::banks::EnvelopeBank;
 use crate::banks::count;
@@ -13,9 +15,37 @@ use curve::Segment;
 use lane::ACCEPTED;
 use lane::EnvelopeParams;
 use lane::NO_SUCH_VOICE;
+use lane::Stage;
 use lane::Trigger;
 use lane::Voice;
 use timing::Timing;
+
+// What is read of a voice that the bank has. That it has no such voice is document 01's number 2.
+pub enum ParamsReading {
+    Params(EnvelopeParams),
+    NoSuchVoice,
+}
+
+pub enum StageReading {
+    Stage(Stage),
+    NoSuchVoice,
+}
+
+pub enum LevelReading {
+    Level(f32),
+    NoSuchVoice,
+}
+
+pub enum IdleReading {
+    Idle(bool),
+    NoSuchVoice,
+}
+
+// A number of frames.
+pub enum FramesReading {
+    Frames(u64),
+    NoSuchVoice,
+}
 
 // What a call makes of a voice.
 enum Change {
@@ -53,6 +83,25 @@ fn refused(voices: usize, voice: usize) -> u32
 }
 
 impl EnvelopeBank {
+    // A voice, gathered from the arrays.
+    fn load(self, voice: usize) -> Voice
+        requires { ⌜ voice < 64 ⌝ }
+        ensures { λ r. ⌜ r ≡ Banks.voice self voice ⌝ }
+    {
+        let lane = self.lanes[voice];
+        Voice {
+            lane: lane,
+            seg: Segment {
+                u: self.u[voice],
+                r: self.r[voice],
+                d: self.d[voice],
+                scale: self.scale[voice],
+                base: self.base[voice],
+                left: self.left[voice],
+            },
+        }
+    }
+
     // The answer of a call that this number refuses, or else keeps `timing` and changes the `many`
     // voices from `first` on. The arrays are changed as locals, which costs two copies of the bank
     // where its own fields would cost four.
@@ -209,18 +258,7 @@ impl EnvelopeBank {
         ensures { λ r. ⌜ r ≡ Banks.answer self (Call.join voice from) ⌝ }
     {
         if from < count(self.voices) {
-            let lane = self.lanes[from];
-            let source = Voice {
-                lane: lane,
-                seg: Segment {
-                    u: self.u[from],
-                    r: self.r[from],
-                    d: self.d[from],
-                    scale: self.scale[from],
-                    base: self.base[from],
-                    left: self.left[from],
-                },
-            };
+            let source = self.load(from);
             return self.with(
                 refused(self.voices, voice),
                 self.timing,
@@ -233,5 +271,73 @@ impl EnvelopeBank {
             refusal: NO_SUCH_VOICE,
             bank: self,
         }
+    }
+
+    // A voice's settings.
+    pub fn params(self, voice: usize) -> ParamsReading
+        ensures { λ r. ⌜ Replies.ofParams r ≡ Replies.reply self (Call.ask (Query.params voice)) ⌝ }
+    {
+        if voice < count(self.voices) {
+            let held = self.load(voice);
+            let params = held.lane.params;
+            return ParamsReading::Params(params);
+        }
+        ParamsReading::NoSuchVoice
+    }
+
+    // Where a voice is.
+    pub fn stage(self, voice: usize) -> StageReading
+        ensures { λ r. ⌜ Replies.ofStage r ≡ Replies.reply self (Call.ask (Query.stage voice)) ⌝ }
+    {
+        if voice < count(self.voices) {
+            let held = self.load(voice);
+            let lane = held.lane;
+            let stage = lane.stage;
+            return StageReading::Stage(stage);
+        }
+        StageReading::NoSuchVoice
+    }
+
+    // The level that a voice hands out next.
+    pub fn level(self, voice: usize) -> LevelReading
+        ensures { λ r. ⌜ Replies.ofLevel r ≡ Replies.reply self (Call.ask (Query.level voice)) ⌝ }
+    {
+        if voice < count(self.voices) {
+            return LevelReading::Level(self.load(voice).seg.level());
+        }
+        LevelReading::NoSuchVoice
+    }
+
+    // Whether a voice is idle.
+    pub fn is_idle(self, voice: usize) -> IdleReading
+        ensures { λ r. ⌜ Replies.ofIdle r ≡ Replies.reply self (Call.ask (Query.isIdle voice)) ⌝ }
+    {
+        if voice < count(self.voices) {
+            let held = self.load(voice);
+            let lane = held.lane;
+            let stage = lane.stage;
+            return IdleReading::Idle(stage.is_idle());
+        }
+        IdleReading::NoSuchVoice
+    }
+
+    // 0 when a voice is idle, else its release's count of samples.
+    pub fn tail(self, voice: usize) -> FramesReading
+        ensures { λ r. ⌜ Replies.ofFrames r ≡ Replies.reply self (Call.ask (Query.tail voice)) ⌝ }
+    {
+        if voice < count(self.voices) {
+            return FramesReading::Frames(self.load(voice).tail(self.timing));
+        }
+        FramesReading::NoSuchVoice
+    }
+
+    // The frames until a voice's Sustain, were only frames to follow; 0 in Idle, Sustain and Release.
+    pub fn lead(self, voice: usize) -> FramesReading
+        ensures { λ r. ⌜ Replies.ofFrames r ≡ Replies.reply self (Call.ask (Query.lead voice)) ⌝ }
+    {
+        if voice < count(self.voices) {
+            return FramesReading::Frames(self.load(voice).lead(self.timing));
+        }
+        FramesReading::NoSuchVoice
     }
 }

@@ -4,13 +4,12 @@
 mod banks;
 mod calls;
 mod drawing;
-mod readings;
 
 pub use banks::Answer;
 pub use banks::EnvelopeBank;
 pub use banks::MAX_VOICES;
-pub use readings::FramesReading;
-pub use readings::IdleReading;
-pub use readings::LevelReading;
-pub use readings::ParamsReading;
-pub use readings::StageReading;
+pub use calls::FramesReading;
+pub use calls::IdleReading;
+pub use calls::LevelReading;
+pub use calls::ParamsReading;
+pub use calls::StageReading;

@@ -1,4 +1,3 @@
-use Prim.Native.Nat.{_-_}
 use borrow.Author.Needs.{needs}
 use Rattle.bank.specs.Banks.{idle}
 use Rattle.bank.proofs.banks.idle.Statement.{statement}

@@ -1,7 +1,5 @@
-use Prim.Native.Nat.{_-_}
 use borrow.Author.Needs.{needs}
 use Rattle.bank.specs.Parts.{changed}
-use Prim.Native.Nat.{_-_}
 use Rattle.bank.proofs.calls.changed.Statement.{statement}
 use Rattle.bank.proofs.calls.changed.Tie as tie
 

@@ -41,8 +41,10 @@ loop-less c = search needs
 
 loop-again : tie.Need-loop-again Inv-loop μ-loop
 loop-again c =
-    let a = c .before .before .before .before .args in
-    let l = c .before .before .before .loop in
+    let c₃ = c .before .before .before in
+    let c₄ = c₃ .before in
+    let a = c₄ .args in
+    let l = c₃ .loop in
     let e = c .left-after .ensures ∙ ap (λ (n : ℕ). leftAfter n (a .run)) (l .inv .1 .after (l .v) (omega arith)) in
     (search needs, filled-more 0 _ 0 (l .v) (a .left .now) (l .left) _ (omega arith) (omega arith) e (l .inv .1))
 

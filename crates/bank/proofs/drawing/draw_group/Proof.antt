@@ -2,14 +2,11 @@ use mathlib.Core.Path.{_≡_, _∙_, subst}
 use Prim.Native.Nat.{ℕ, _+_, _-_, _*_, _≤_}
 use native.Mathlib.Omega.{arith}
 use native.Mathlib.Numerals.{add-one}
+use native.Mathlib.Nat.{suc-mul}
 use borrow.Author.Needs.{needs}
 use lib.ListN.{length}
-use Rattle.bank.proofs.Rows.{row-fits, group-none, group-next}
 use Rattle.bank.specs.Parts.{GroupDrawn}
-use native.Mathlib.Nat.{suc-mul}
-use mathlib.Core.Path.{_≡_, _∙_, subst}
-use Prim.Native.Nat.{ℕ, _+_, _-_, _*_, _≤_}
-use lib.ListN.{length}
+use Rattle.bank.proofs.Rows.{row-fits, group-none, group-next}
 use Rattle.bank.proofs.drawing.draw_group.Statement.{statement}
 use Rattle.bank.proofs.drawing.draw_group.Tie as tie
 
@@ -29,7 +26,8 @@ room : (c : tie.In-loop Inv-loop μ-loop)
     → (c .before .loop .at + 16 ≤ length (c .before .loop .out))
     × (c .before .loop .at + c .before .before .before .args .stride ≤ length (c .before .loop .out) + c .before .before .before .args .g)
 room c =
-    let a = c .before .before .before .args in
+    let c₃ = c .before .before .before in
+    let a = c₃ .args in
     let f = row-fits (c .before .loop .k) (a .rows) (a .stride) (c .loop-test .taken) in
     (omega (arith, f), omega (arith, f))
 
@@ -49,10 +47,15 @@ part-draw-row-end : tie.Need-part-draw-row-end Inv-loop μ-loop
 part-draw-row-end c = search needs
 
 draw-row-requires : tie.Need-draw-row-requires Inv-loop μ-loop
-draw-row-requires c κs = (omega (arith, room (c .before .before .before .before .before .before), c .before .before .before .before .before .draw-row-arg .given), search needs)
+draw-row-requires c κs =
+    let c₅ = c .before .before .before .before .before in
+    let c₆ = c₅ .before in
+    (omega (arith, room c₆, c₅ .draw-row-arg .given), search needs)
 
 add-at : tie.Need-add-at Inv-loop μ-loop
-add-at c = record { fits = omega (arith, room (c .before .before .before .before .before .before .before .before .before)) }
+add-at c =
+    let c₉ = c .before .before .before .before .before .before .before .before .before in
+    record { fits = omega (arith, room c₉) }
 
 add-k : tie.Need-add-k Inv-loop μ-loop
 add-k c = search needs
@@ -62,9 +65,12 @@ loop-less c = search needs
 
 loop-again : tie.Need-loop-again Inv-loop μ-loop
 loop-again c =
-    let t = c .before .before .before .before .before .before .before .before .before in
-    let l = c .before .before .before .before .before .before .before .before .before .before .loop in
-    let a = c .before .before .before .before .before .before .before .before .before .before .before .before .args in
+    let c₉ = c .before .before .before .before .before .before .before .before .before in
+    let c₁₀ = c₉ .before in
+    let c₁₂ = c₁₀ .before .before in
+    let t = c₉ in
+    let l = c₁₀ .loop in
+    let a = c₁₂ .args in
     let q = c .before .before .draw-row in (
       search needs,
       rw (add-one (l .k)) (omega (arith, suc-mul (l .k) (a .stride))),
@@ -79,7 +85,8 @@ same-length c = search needs
 
 returns : tie.Need-returns Inv-loop μ-loop
 returns c =
-    let a = c .before .before .before .args in
+    let c₃ = c .before .before .before in
+    let a = c₃ .args in
     let l = c .before .loop in
     let e : l .k ≡ a .rows = omega arith in
     subst (λ (n : ℕ). GroupDrawn (a .stride) (a .g) n (a .first) (a .t6) (a .t7) (a .t8) (a .t9) (a .out .now) (l .out) (l .u)) e (l .inv .4)

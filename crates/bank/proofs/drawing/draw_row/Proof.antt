@@ -73,8 +73,10 @@ loop-less c = search needs
 
 loop-again : tie.Need-loop-again Inv-loop μ-loop
 loop-again c =
-    let a = c .before .before .before .before .before .before .before .args in
-    let l = c .before .before .before .before .before .before .loop in
+    let c₆ = c .before .before .before .before .before .before in
+    let c₇ = c₆ .before in
+    let a = c₇ .args in
+    let l = c₆ .loop in
     let i = l .i in
     let x : getD (l .u) i nan ≡ getD (a .u .now) i nan = l .inv .3 .after i (omega arith) in (
       search needs,

@@ -51,16 +51,25 @@ loop-less c = search needs
 
 loop-again : tie.Need-loop-again Inv-loop μ-loop
 loop-again c =
-    let a = c .before .before .before .before .before .before .before .before .before .before .before .before .before .before .before .args in
-    let l = c .before .before .before .before .before .before .before .before .before .before .before .before .before .loop in
-    let w = c .before .before .before .before .draw-group in
+    let c₄ = c .before .before .before .before in
+    let c₅ = c₄ .before in
+    let c₆ = c₅ .before in
+    let c₇ = c₆ .before in
+    let c₈ = c₇ .before in
+    let c₉ = c₈ .before in
+    let c₁₂ = c₉ .before .before .before in
+    let c₁₃ = c₁₂ .before in
+    let c₁₅ = c₁₃ .before .before in
+    let a = c₁₅ .args in
+    let l = c₁₃ .loop in
+    let w = c₄ .draw-group in
     let s = c .store in (
-      omega (arith, c .before .before .before .before .before .before .before .before .before .before .before .before .loop-test .taken),
+      omega (arith, c₁₂ .loop-test .taken),
       w .kept .0 ∙ l .inv .1,
       groups-more (16 * a .groups) (l .q) (a .voices) (a .rows) (16 * l .q) (a .u .now) (l .u) (a .r .now) (a .d .now) (a .scale .now) (a .base .now) (l .out) _
-          (c .before .before .before .before .before .before .before .before .before .load .result) (c .before .before .before .before .before .before .before .before .load2 .result) (c .before .before .before .before .before .before .before .load3 .result) (c .before .before .before .before .before .before .load4 .result) (c .before .before .before .before .before .load5 .result)
-          (w .result) _ refl (l .inv .2) (c .before .before .before .before .before .before .before .before .before .load .ensures) (c .before .before .before .before .before .before .before .before .load2 .ensures) (c .before .before .before .before .before .before .before .load3 .ensures) (c .before .before .before .before .before .before .load4 .ensures)
-          (c .before .before .before .before .before .load5 .ensures) (w .ensures) (s .ensures),
+          (c₉ .load .result) (c₈ .load2 .result) (c₇ .load3 .result) (c₆ .load4 .result) (c₅ .load5 .result)
+          (w .result) _ refl (l .inv .2) (c₉ .load .ensures) (c₈ .load2 .ensures) (c₇ .load3 .ensures) (c₆ .load4 .ensures)
+          (c₅ .load5 .ensures) (w .ensures) (s .ensures),
     )
 
 same-length : tie.Need-same-length Inv-loop μ-loop
@@ -68,7 +77,8 @@ same-length c = search needs
 
 returns : tie.Need-returns Inv-loop μ-loop
 returns c =
-    let a = c .before .before .before .args in
+    let c₃ = c .before .before .before in
+    let a = c₃ .args in
     let l = c .before .loop in
     let e : l .q ≡ a .groups = omega arith in
     groups-all (a .groups) (a .voices) (a .rows) (a .u .now) (a .r .now) (a .d .now) (a .scale .now) (a .base .now) (l .out) (l .u) (search needs)

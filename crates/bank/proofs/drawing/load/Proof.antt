@@ -4,18 +4,11 @@ use Prim.Native.Nat.{ℕ, zero, _+_, _-_, _≤_}
 use native.Mathlib.Omega.{arith}
 use borrow.Author.Needs.{needs}
 use lib.Dec.{ltb}
-use lib.Ieee.{nan}
+use lib.Ieee.{nan, ofBits}
 use lib.ListN.{getD}
 use Rattle.numbers.specs.Constants as Constants
 use Rattle.envelope.specs.Parts.{Filled}
 use Rattle.envelope.proofs.Fill.{filled-none, filled-more}
-use lib.Ieee.{ofBits}
-use mathlib.Core.Path.{_≡_, subst}
-use mathlib.Core.Bool.{cond}
-use Prim.Native.Nat.{ℕ, zero, _+_, _-_, _≤_}
-use lib.Dec.{ltb}
-use lib.Ieee.{nan}
-use lib.ListN.{getD}
 use Rattle.bank.proofs.drawing.load.Statement.{statement}
 use Rattle.bank.proofs.drawing.load.Tie as tie
 
@@ -58,7 +51,8 @@ loop-less c = search needs
 loop-again : tie.Need-loop-again Inv-loop μ-loop
 unfolding ofBits
 loop-again c =
-    let l = c .before .before .before .loop in (
+    let c₃ = c .before .before .before in
+    let l = c₃ .loop in (
       search needs,
       filled-more nan _ 0 (l .i) _ (l .x) _ (omega arith) (omega arith) (c .pick .ensures) (l .inv .1),
     )

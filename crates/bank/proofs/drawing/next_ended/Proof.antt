@@ -2,8 +2,8 @@ use mathlib.Core.Path.{_≡_}
 use Prim.Native.Nat.{ℕ, _-_, _≤_, _<_}
 use native.Mathlib.Omega.{arith}
 use borrow.Author.Needs.{needs}
-use lib.ListN.{getD}
 use borrow.Author.Count.{below-more}
+use lib.ListN.{getD}
 use Rattle.bank.proofs.drawing.next_ended.Statement.{statement}
 use Rattle.bank.proofs.drawing.next_ended.Tie as tie
 
@@ -24,7 +24,8 @@ element-copy-out-if1 c = search needs
 
 returns : tie.Need-returns Inv-loop μ-loop
 returns c =
-    let l = c .before .before .before .loop in
+    let c₃ = c .before .before .before in
+    let l = c₃ .loop in
     record { low = l .inv .0; high = l .inv .1; passed = l .inv .2; ended = λ h. c .if1 .taken }
 
 add-v : tie.Need-add-v Inv-loop μ-loop
@@ -35,8 +36,10 @@ loop-less c = search needs
 
 loop-again : tie.Need-loop-again Inv-loop μ-loop
 loop-again c =
-    let a = c .before .before .before .before .args in
-    let l = c .before .before .before .loop in
+    let c₃ = c .before .before .before in
+    let c₄ = c₃ .before in
+    let a = c₄ .args in
+    let l = c₃ .loop in
     let P : ℕ → Type 0 = λ w. a .first ≤ w → getD (a .left .now) w 0 ≡ 0 → ⊥ in
     (search needs, search needs, λ w p h. below-more P (l .v) (λ w h p. l .inv .2 w p h) (λ p. c .if1 .left) w h p)
 

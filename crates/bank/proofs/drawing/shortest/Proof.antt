@@ -1,11 +1,11 @@
 use mathlib.Core.Path.{_≡_, subst}
 use Prim.Native.Nat.{ℕ, _-_, _≤_}
 use native.Mathlib.Omega.{arith}
+use native.Mathlib.Nat.{le-trans}
 use borrow.Author.Needs.{needs}
+use borrow.Author.Count.{below-more}
 use Rattle.envelope.proofs.Runs.{run-some, run-few}
 use Rattle.bank.specs.Parts.{Shortest}
-use borrow.Author.Count.{below-more}
-use native.Mathlib.Nat.{le-trans}
 use Rattle.bank.proofs.drawing.shortest.Statement.{statement}
 use Rattle.bank.proofs.drawing.shortest.Tie as tie
 
@@ -35,7 +35,8 @@ loop-less c = search needs
 
 loop-again : tie.Need-loop-again Inv-loop μ-loop
 loop-again c =
-    let l = c .before .before .before .loop in
+    let c₃ = c .before .before .before in
+    let l = c₃ .loop in
     let q = c .run-length in
     let S = l .inv .1 in
     let few : q .result ≤ l .run = rw (q .ensures .0) (run-few _ _) in (

@@ -7,12 +7,6 @@ use lib.Dec.{ltb}
 use lib.Ieee.{Float, nan}
 use lib.ListN.{getD, set}
 use Rattle.envelope.specs.Parts.{Filled}
-use mathlib.Core.Path.{_≡_, ap, ap₂, _∙_, subst}
-use mathlib.Core.Bool.{cond}
-use Prim.Native.Nat.{ℕ, _+_, _-_, _≤_}
-use lib.Dec.{ltb}
-use lib.Ieee.{Float, nan}
-use lib.ListN.{getD, set}
 use Rattle.envelope.proofs.Fill.{filled-none, filled-more}
 use Rattle.bank.proofs.drawing.store.Statement.{statement}
 use Rattle.bank.proofs.drawing.store.Tie as tie
@@ -67,8 +61,10 @@ loop-less c = search needs
 
 loop-again : tie.Need-loop-again Inv-loop μ-loop
 loop-again c =
-    let a = c .before .before .before .before .args in
-    let l = c .before .before .before .loop in
+    let c₃ = c .before .before .before in
+    let c₄ = c₃ .before in
+    let a = c₄ .args in
+    let l = c₃ .loop in
     let q = c .pick in
     let f : ℕ → Float = λ j. cond (ltb j (a .voices)) (getD (a .t4) (j - a .g) nan) (getD (a .a .now) j nan) in
     let kept : getD (l .a) (a .g + l .i) nan ≡ getD (a .a .now) (a .g + l .i) nan = l .inv .1 .after (a .g + l .i) (omega arith) in

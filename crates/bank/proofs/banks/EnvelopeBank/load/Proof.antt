@@ -1,5 +1,4 @@
 use mathlib.Core.Path.{refl}
-use Prim.Native.Nat.{_-_}
 use borrow.Author.Needs.{needs}
 use Rattle.bank.specs.Banks.{blank}
 use Rattle.bank.proofs.banks.EnvelopeBank.load.Statement.{statement}

@@ -1,12 +1,9 @@
-use Prim.Native.Nat.{_-_}
 use native.Mathlib.Omega.{arith}
 use borrow.Author.Needs.{needs}
+use lib.Ieee.{ofBits}
 use Rattle.bank.specs.Calls.{opening}
 use Rattle.bank.specs.Banks.{new, idle}
-use lib.Ieee.{ofBits}
 use Rattle.bank.proofs.Spread.{new-refused, new-accepted}
-use Prim.Native.Nat.{_-_}
-use Rattle.bank.specs.Banks.{new}
 use Rattle.bank.proofs.banks.EnvelopeBank.new.Statement.{statement}
 use Rattle.bank.proofs.banks.EnvelopeBank.new.Tie as tie
 
@@ -22,8 +19,10 @@ idle-requires c κs = search needs
 returns : tie.Need-returns
 unfolding ofBits
 returns c =
-    let a = c .before .before .before .before .args in
-    let q = c .before .before .before .refused in
+    let c₃ = c .before .before .before in
+    let c₄ = c₃ .before in
+    let a = c₄ .args in
+    let q = c₃ .refused in
     rw (c .idle .ensures, c .before .new .ensures) (new-refused (opening (a .voices) (a .params) (a .timing)) (q .result) (q .ensures) (c .before .before .if1 .taken))
 
 idle-requires-2 : tie.Need-idle-requires-2
@@ -31,7 +30,8 @@ idle-requires-2 c κs = search needs
 
 returns-2 : tie.Need-returns-2
 returns-2 c =
-    let a = c .before .before .before .args in
+    let c₃ = c .before .before .before in
+    let a = c₃ .args in
     let q = c .before .before .refused in
     rw (c .idle2 .ensures) (new-accepted (opening (a .voices) (a .params) (a .timing)) (q .result) (q .ensures) (omega (arith, c .before .if1 .left)))
 

@@ -1,33 +1,36 @@
-use Prim.Native.Nat.{_-_}
+use mathlib.Core.Path.{refl, ap, _∙_}
+use Prim.Native.Nat.{_<_}
 use native.Mathlib.Omega.{arith}
-use borrow.Author.Tests.{lt-ltb, le-ltb}
 use borrow.Author.Needs.{needs}
-use Rattle.bank.specs.Calls.{refusal, queryRefusal}
-use Rattle.bank.specs.Banks.{blank, size}
-use Rattle.bank.specs.Replies.{reply, told, ofParams}
+use Rattle.lane.specs.declared.lanes.Voice.{Voice}
+use Rattle.bank.specs.Calls.{Query, queryRefusal}
+use Rattle.bank.specs.Banks.{size}
+use Rattle.bank.specs.Replies.{Reply, told, ofParams}
+use Rattle.bank.proofs.Readings.{reading-present, reading-missing}
 use Rattle.bank.proofs.banks.EnvelopeBank.params.Statement.{statement}
 use Rattle.bank.proofs.banks.EnvelopeBank.params.Tie as tie
 
 count-requires : tie.Need-count-requires
 count-requires c κs = search needs
 
-mul-lane : tie.Need-mul-lane
-mul-lane c = search needs
-
-element-copy-out-lane : tie.Need-element-copy-out-lane
-element-copy-out-lane c = search needs
+load-requires : tie.Need-load-requires
+load-requires c κs = search needs
 
 returns : tie.Need-returns
-unfolding reply refusal queryRefusal told ofParams blank
+unfolding queryRefusal told ofParams
 returns c =
-    let a = c .before .before .before .before .args in
-    rw (lt-ltb (a .voice) (size (a .t1)) (omega (arith, c .before .before .if1 .taken, c .before .before .before .count .ensures)))
+    let c₃ = c .before .before .before in
+    let c₄ = c₃ .before in
+    let a = c₄ .args in
+    let h : a .voice < size (a .self) = omega (arith, c .before .before .if1 .taken, c₃ .count .ensures) in
+    ap (λ (v : Voice). Reply.params (v .lane .params)) (c .before .load .ensures)
+    ∙ reading-present (a .self) (Query.params (a .voice)) (a .voice) refl h
 
 returns-2 : tie.Need-returns-2
-unfolding reply refusal queryRefusal told ofParams
+unfolding queryRefusal ofParams
 returns-2 c =
     let a = c .before .before .args in
-    rw (le-ltb (a .voice) (size (a .t1)) (omega (arith, c .if1 .left, c .before .count .ensures)))
+    reading-missing (a .self) (Query.params (a .voice)) (a .voice) refl (omega (arith, c .if1 .left, c .before .count .ensures))
 
 pub params-spec : {M : Type 1} → statement M
-params-spec = tie.close (tie.spec count-requires mul-lane element-copy-out-lane returns returns-2)
+params-spec = tie.close (tie.spec count-requires load-requires returns returns-2)

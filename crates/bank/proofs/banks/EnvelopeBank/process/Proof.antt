@@ -1,10 +1,10 @@
 use mathlib.Core.Path.{_≡_, refl, ap, _∙_, subst}
 use Prim.Native.Nat.{ℕ, _+_, _-_, _*_, _/_, _%_, _≤_, _<_}
 use native.Mathlib.Omega.{arith}
-use borrow.Author.Needs.{needs}
-use lib.ListN.{length, getD}
-use borrow.Rule.Slice.PartMut.{same-len-mid}
 use native.Mathlib.Nat.{div-mul-le-self, div-le-self, le-trans, le-add-right}
+use borrow.Author.Needs.{needs}
+use borrow.Rule.Slice.PartMut.{same-len-mid}
+use lib.ListN.{length, getD}
 use Rattle.bank.specs.declared.banks.EnvelopeBank.{EnvelopeBank}
 use Rattle.bank.specs.Calls.{strideOf}
 use Rattle.bank.specs.Banks.{blank, size}
@@ -96,9 +96,10 @@ counted-lanes : (c : tie.After-next-ended Inv-loop2 μ-loop2 Inv-loop μ-loop)
     → let b = loop-bank (loop-of (run-of c)) in
     Lanes (b .timing) (ranLane (groups-of (loop-of (run-of c)) .before .count .result) (run-of c .shortest .result) b) b (counted-bank c)
 counted-lanes c =
+    let c₆ = c .before .before .before .before .before .before in
     let l = loop-of (run-of c) in
     ran-lanes (groups-of l .before .count .result) (run-of c .shortest .result) (loop-bank l) _ _ (l .loop .inv .4 .lanes .sized)
-    (c .before .before .before .before .before .before .draw-rows .ensures .moved) (c .before .before .count-down .ensures)
+    (c₆ .draw-rows .ensures .moved) (c .before .before .count-down .ensures)
 
 small : (c : tie.In-loop2 Inv-loop2 μ-loop2 Inv-loop μ-loop) → c .before .loop2 .v < 64
 small c = omega (arith, few (groups-of (loop-of (run-of (c .before .before)))), c .loop2-test .taken)
@@ -119,7 +120,8 @@ rem-if1 c = omega (arith, grouped c)
 
 returns : tie.Need-returns Inv-loop2 μ-loop2 Inv-loop μ-loop
 returns c =
-    let a = c .before .before .before .before .args in
+    let c₄ = c .before .before .before .before in
+    let a = c₄ .args in
     let s = 16 * c .before .groups .result in
     let e = stride-is (c .before) in
     let h = c .if1 .taken in
@@ -130,20 +132,25 @@ div-frames c = omega (arith, grouped (c .before))
 
 loop-holds : tie.Need-loop-holds Inv-loop2 μ-loop2 Inv-loop μ-loop
 loop-holds c =
-    let a = c .before .before .before .before .before .before .before .before .before .before .before .before .args in
-    let s = 16 * c .before .before .before .before .before .before .before .before .before .groups .result in (
+    let c₉ = c .before .before .before .before .before .before .before .before .before in
+    let c₁₀ = c₉ .before in
+    let c₁₂ = c₁₀ .before .before in
+    let a = c₁₂ .args in
+    let s = 16 * c₉ .groups .result in (
       search needs,
       search needs,
       div-mul-le-self _ s,
       div-le-self _ s,
-      ran-none (c .before .before .before .before .before .before .before .before .before .before .count .result) s (a .self) (a .out .now) (sized (a .self) _ (c .before .before .before .before .before .before .before .before .before .before .before .before .good .0)),
+      ran-none (c₁₀ .count .result) s (a .self) (a .out .now) (sized (a .self) _ (c₁₂ .good .0)),
     )
 
 sub-shortest : tie.Need-sub-shortest Inv-loop2 μ-loop2 Inv-loop μ-loop
 sub-shortest c = search needs
 
 shortest-requires : tie.Need-shortest-requires Inv-loop2 μ-loop2 Inv-loop μ-loop
-shortest-requires c κs = (few (c .before .before .before .before .before .before .before .before .before .before .before .before), omega (arith, c .before .loop-test .taken))
+shortest-requires c κs =
+    let c₁₂ = c .before .before .before .before .before .before .before .before .before .before .before .before in
+    (few c₁₂, omega (arith, c .before .loop-test .taken))
 
 mul-from : tie.Need-mul-from Inv-loop2 μ-loop2 Inv-loop μ-loop
 mul-from c = record { fits = omega (arith, room c) }
@@ -162,23 +169,33 @@ part-draw-rows-end c = search needs
 
 draw-rows-requires : tie.Need-draw-rows-requires Inv-loop2 μ-loop2 Inv-loop μ-loop
 draw-rows-requires c κs =
-    let g = grouped (c .before .before .before .before .before .before .before .before .before .before .before .before .before .before .before .before .before .before .before) in
-    (g .1, g .2, omega (arith, room (c .before .before .before .before .before .before), c .before .before .before .before .before .draw-rows-arg .given), c .before .before .before .before .before .before .before .before .before .loop .inv .4 .lanes .sized .u)
+    let c₅ = c .before .before .before .before .before in
+    let c₆ = c₅ .before in
+    let c₉ = c₆ .before .before .before in
+    let c₁₉ = groups-of c₉ in
+    let g = grouped c₁₉ in
+    (g .1, g .2, omega (arith, room c₆, c₅ .draw-rows-arg .given), c₉ .loop .inv .4 .lanes .sized .u)
 
 count-down-requires : tie.Need-count-down-requires Inv-loop2 μ-loop2 Inv-loop μ-loop
-count-down-requires c κs = (few (c .before .before .before .before .before .before .before .before .before .before .before .before .before .before .before .before .before .before .before .before .before .before .before), c .before .before .before .before .before .before .before .before .before .before .before .before .before .loop .inv .4 .lanes .sized .left)
+count-down-requires c κs =
+    let c₁₃ = c .before .before .before .before .before .before .before .before .before .before .before .before .before in
+    let c₂₃ = groups-of c₁₃ in
+    (few c₂₃, c₁₃ .loop .inv .4 .lanes .sized .left)
 
 next-ended-requires : tie.Need-next-ended-requires Inv-loop2 μ-loop2 Inv-loop μ-loop
-next-ended-requires c κs = (few (c .before .before .before .before .before .before .before .before .before .before .before .before .before .before .before .before .before .before .before .before .before .before .before .before .before), search needs)
+next-ended-requires c κs =
+    let c₂₅ = c .before .before .before .before .before .before .before .before .before .before .before .before .before .before .before .before .before .before .before .before .before .before .before .before .before in
+    (few c₂₅, search needs)
 
 loop2-holds : tie.Need-loop2-holds Inv-loop2 μ-loop2 Inv-loop μ-loop
 loop2-holds c =
+    let c₂₆ = groups-of (loop-of (run-of c)) in
     let b₁ = counted-bank c in
     let S = counted-lanes c .sized in
     let e = c .next-ended .ensures in (
       e .high,
       e .ended,
-      settle-to _ b₁ b₁ 0 (settle-none _ b₁ S refl) (c .next-ended .result) (search needs) (le-trans (e .high) (few (c .before .before .before .before .before .before .before .before .before .before .before .before .before .before .before .before .before .before .before .before .before .before .before .before .before .before))) (e .passed),
+      settle-to _ b₁ b₁ 0 (settle-none _ b₁ S refl) (c .next-ended .result) (search needs) (le-trans (e .high) (few c₂₆)) (e .passed),
     )
 
 mul-lane : tie.Need-mul-lane Inv-loop2 μ-loop2 Inv-loop μ-loop
@@ -191,89 +208,142 @@ advance-requires : tie.Need-advance-requires Inv-loop2 μ-loop2 Inv-loop μ-loop
 advance-requires c κs = search needs
 
 mul-lanes : tie.Need-mul-lanes Inv-loop2 μ-loop2 Inv-loop μ-loop
-mul-lanes c = record { fits = omega (arith, small (c .before .before .before .before)) }
+mul-lanes c =
+    let c₄ = c .before .before .before .before in
+    record { fits = omega (arith, small c₄) }
 
 array-set-from-lanes : tie.Need-array-set-from-lanes Inv-loop2 μ-loop2 Inv-loop μ-loop
-array-set-from-lanes c = small (c .before .before .before .before)
+array-set-from-lanes c =
+    let c₄ = c .before .before .before .before in
+    small c₄
 
 mul-u : tie.Need-mul-u Inv-loop2 μ-loop2 Inv-loop μ-loop
-mul-u c = record { fits = omega (arith, small (c .before .before .before .before)) }
+mul-u c =
+    let c₄ = c .before .before .before .before in
+    record { fits = omega (arith, small c₄) }
 
 array-write-u : tie.Need-array-write-u Inv-loop2 μ-loop2 Inv-loop μ-loop
-array-write-u c = small (c .before .before .before .before)
+array-write-u c =
+    let c₄ = c .before .before .before .before in
+    small c₄
 
 mul-r : tie.Need-mul-r Inv-loop2 μ-loop2 Inv-loop μ-loop
-mul-r c = record { fits = omega (arith, small (c .before .before .before .before)) }
+mul-r c =
+    let c₄ = c .before .before .before .before in
+    record { fits = omega (arith, small c₄) }
 
 array-write-r : tie.Need-array-write-r Inv-loop2 μ-loop2 Inv-loop μ-loop
-array-write-r c = small (c .before .before .before .before)
+array-write-r c =
+    let c₄ = c .before .before .before .before in
+    small c₄
 
 mul-d : tie.Need-mul-d Inv-loop2 μ-loop2 Inv-loop μ-loop
-mul-d c = record { fits = omega (arith, small (c .before .before .before .before)) }
+mul-d c =
+    let c₄ = c .before .before .before .before in
+    record { fits = omega (arith, small c₄) }
 
 array-write-d : tie.Need-array-write-d Inv-loop2 μ-loop2 Inv-loop μ-loop
-array-write-d c = small (c .before .before .before .before)
+array-write-d c =
+    let c₄ = c .before .before .before .before in
+    small c₄
 
 mul-scale : tie.Need-mul-scale Inv-loop2 μ-loop2 Inv-loop μ-loop
-mul-scale c = record { fits = omega (arith, small (c .before .before .before .before)) }
+mul-scale c =
+    let c₄ = c .before .before .before .before in
+    record { fits = omega (arith, small c₄) }
 
 array-write-scale : tie.Need-array-write-scale Inv-loop2 μ-loop2 Inv-loop μ-loop
-array-write-scale c = small (c .before .before .before .before)
+array-write-scale c =
+    let c₄ = c .before .before .before .before in
+    small c₄
 
 mul-base : tie.Need-mul-base Inv-loop2 μ-loop2 Inv-loop μ-loop
-mul-base c = record { fits = omega (arith, small (c .before .before .before .before)) }
+mul-base c =
+    let c₄ = c .before .before .before .before in
+    record { fits = omega (arith, small c₄) }
 
 array-write-base : tie.Need-array-write-base Inv-loop2 μ-loop2 Inv-loop μ-loop
-array-write-base c = small (c .before .before .before .before)
+array-write-base c =
+    let c₄ = c .before .before .before .before in
+    small c₄
 
 mul-left : tie.Need-mul-left Inv-loop2 μ-loop2 Inv-loop μ-loop
-mul-left c = record { fits = omega (arith, small (c .before .before .before .before)) }
+mul-left c =
+    let c₄ = c .before .before .before .before in
+    record { fits = omega (arith, small c₄) }
 
 array-write-left : tie.Need-array-write-left Inv-loop2 μ-loop2 Inv-loop μ-loop
-array-write-left c = small (c .before .before .before .before)
+array-write-left c =
+    let c₄ = c .before .before .before .before in
+    small c₄
 
 add-next-ended : tie.Need-add-next-ended Inv-loop2 μ-loop2 Inv-loop μ-loop
-add-next-ended c = record { fits = omega (arith, small (c .before .before .before .before .before)) }
+add-next-ended c =
+    let c₅ = c .before .before .before .before .before in
+    record { fits = omega (arith, small c₅) }
 
 next-ended-requires-2 : tie.Need-next-ended-requires-2 Inv-loop2 μ-loop2 Inv-loop μ-loop
-next-ended-requires-2 c κs = (few (c .before .before .before .before .before .before .before .before .before .before .before .before .before .before .before .before .before .before .before .before .before .before .before .before .before .before .before .before .before .before .before .before .before), omega (arith, c .before .before .before .before .before .loop2-test .taken))
+next-ended-requires-2 c κs =
+    let c₅ = c .before .before .before .before .before in
+    let c₃₃ = groups-of (loop-of (run-of (c₅ .before .before))) in
+    (few c₃₃, omega (arith, c₅ .loop2-test .taken))
 
 loop2-less : tie.Need-loop2-less Inv-loop2 μ-loop2 Inv-loop μ-loop
-loop2-less c = omega (arith, c .before .before .before .before .before .before .loop2-test .taken, c .next-ended2 .ensures .low)
+loop2-less c =
+    let c₆ = c .before .before .before .before .before .before in
+    omega (arith, c₆ .loop2-test .taken, c .next-ended2 .ensures .low)
 
 loop2-again : tie.Need-loop2-again Inv-loop2 μ-loop2 Inv-loop μ-loop
 unfolding blank
 loop2-again c =
-    let a = c .before .before .before .before .before .before .before .before .before .before .before .before .before .before .before .before .before .before .before .before .before .before .before .before .before .before .before .before .before .before .before .before .before .before .before .before .before .args in
-    let l = c .before .before .before .before .before .before .before .loop2 in
-    let b₁ = counted-bank (c .before .before .before .before .before .before .before .before) in
+    let c₄ = c .before .before .before .before in
+    let c₆ = c₄ .before .before in
+    let c₇ = c₆ .before in
+    let c₈ = c₇ .before in
+    let c₃₄ = groups-of (loop-of (run-of c₈)) in
+    let c₃₇ = c₃₄ .before .before .before in
+    let a = c₃₇ .args in
+    let l = c₇ .loop2 in
+    let b₁ = counted-bank c₈ in
     let b = bankOf (a .self .voices) (a .self .timing) (l .lanes) (l .u) (l .r) (l .d) (l .scale) (l .base) (l .left) in
     let e = c .next-ended2 .ensures in
-    let q = c .before .before .before .before .advance in
-    let h = c .before .before .before .before .before .before .loop2-test .taken in
-    let put = settle-put (a .self .timing) b₁ b (l .v) (l .inv .2) (q .result) (small (c .before .before .before .before .before .before)) (l .inv .1 h) (q .ensures) in (
+    let q = c₄ .advance in
+    let h = c₆ .loop2-test .taken in
+    let put = settle-put (a .self .timing) b₁ b (l .v) (l .inv .2) (q .result) (small c₆) (l .inv .1 h) (q .ensures) in (
       e .high,
       e .ended,
       settle-to (a .self .timing) b₁ (putLane b (l .v) (q .result)) (l .v + 1) put (c .next-ended2 .result)
-          (e .low) (le-trans (e .high) (few (c .before .before .before .before .before .before .before .before .before .before .before .before .before .before .before .before .before .before .before .before .before .before .before .before .before .before .before .before .before .before .before .before .before .before))) (e .passed),
+          (e .low) (le-trans (e .high) (few c₃₄)) (e .passed),
     )
 
 add-done : tie.Need-add-done Inv-loop2 μ-loop2 Inv-loop μ-loop
-add-done c = record { fits = omega (arith, room (c .before .before .before .before .before .before .before .before .before .before .before .before .before .before .before), c .before .before .before .before .before .before .before .before .before .before .before .before .before .before .before .before .before .before .before .before .before .before .before .before .before .before .before .before .before .before .before .good .1 .0) }
+add-done c =
+    let c₁₅ = c .before .before .before .before .before .before .before .before .before .before .before .before .before .before .before in
+    let c₃₁ = c₁₅ .before .before .before .before .before .before .before .before .before .before .before .before .before .before .before .before in
+    record { fits = omega (arith, room c₁₅, c₃₁ .good .1 .0) }
 
 loop-less : tie.Need-loop-less Inv-loop2 μ-loop2 Inv-loop μ-loop
-loop-less c = omega (arith, c .before .before .before .before .before .before .before .before .before .before .before .before .before .before .before .before .before .loop-test .taken, c .before .before .before .before .before .before .before .before .before .before .before .before .before .before .before .shortest .ensures .some)
+loop-less c =
+    let c₁₅ = c .before .before .before .before .before .before .before .before .before .before .before .before .before .before .before in
+    let c₁₇ = c₁₅ .before .before in
+    omega (arith, c₁₇ .loop-test .taken, c₁₅ .shortest .ensures .some)
 
 loop-again : tie.Need-loop-again Inv-loop2 μ-loop2 Inv-loop μ-loop
 loop-again c =
-    let a = c .before .before .before .before .before .before .before .before .before .before .before .before .before .before .before .before .before .before .before .before .before .before .before .before .before .before .before .before .before .before .before .args in
-    let l = c .before .before .before .before .before .before .before .before .before .before .before .before .before .before .before .before .before .before .loop in
+    let c₈ = c .before .before .before .before .before .before .before .before in
+    let c₁₅ = c₈ .before .before .before .before .before .before .before in
+    let c₁₈ = c₁₅ .before .before .before in
+    let c₂₈ = groups-of c₁₈ in
+    let c₂₉ = c₂₈ .before in
+    let c₃₁ = c₂₉ .before .before in
+    let a = c₃₁ .args in
+    let l = c₁₈ .loop in
     let i = c .before .loop2 in
-    let n = c .before .before .before .before .before .before .before .before .before .before .before .before .before .before .before .before .before .before .before .before .before .before .before .before .before .before .before .before .before .count .result in
-    let s = 16 * c .before .before .before .before .before .before .before .before .before .before .before .before .before .before .before .before .before .before .before .before .before .before .before .before .before .before .before .before .groups .result in
-    let run = c .before .before .before .before .before .before .before .before .before .before .before .before .before .before .before .shortest in
-    let drew = c .before .before .before .before .before .before .before .before .draw-rows in
-    let r = room (c .before .before .before .before .before .before .before .before .before .before .before .before .before .before .before) in
+    let n = c₂₉ .count .result in
+    let s = 16 * c₂₈ .groups .result in
+    let run = c₁₅ .shortest in
+    let drew = c₈ .draw-rows in
+    let r = room c₁₅ in
     let b₁ = counted-bank (c .before .before) in
     let b = bankOf (a .self .voices) (a .self .timing) (l .lanes) (l .u) (l .r) (l .d) (l .scale) (l .base) (l .left) in
     let b₂ = bankOf (a .self .voices) (a .self .timing) (i .lanes) (i .u) (i .r) (i .d) (i .scale) (i .base) (i .left) in
@@ -283,7 +353,7 @@ loop-again c =
       same-len-mid (l .done * s) (length (l .out) - l .done * s) (l .out) (drew .last .0) (drew .kept .0) ∙ l .inv .1,
       l .inv .2,
       l .inv .3,
-      ran-more n s (a .self) b b₁ b₂ (l .done) (run .result) _ (l .out) (drew .last .0) (drew .last .1 .1 .1 .1 .0) (few (c .before .before .before .before .before .before .before .before .before .before .before .before .before .before .before .before .before .before .before .before .before .before .before .before .before .before .before .before)) (l .inv .4)
+      ran-more n s (a .self) b b₁ b₂ (l .done) (run .result) _ (l .out) (drew .last .0) (drew .last .1 .1 .1 .1 .0) (few c₂₈) (l .inv .4)
           (run .ensures) (drew .ensures) (counted-lanes (c .before .before)) Z (le-trans (le-add-right _ _) (r .2)),
     )
 
@@ -292,19 +362,23 @@ same-length c = search needs
 
 returns-2 : tie.Need-returns-2 Inv-loop2 μ-loop2 Inv-loop μ-loop
 returns-2 c =
-    let a = c .before .before .before .before .before .before .before .before .before .before .before .before .before .before .args in
+    let c₁₀ = c .before .before .before .before .before .before .before .before .before .before in
+    let c₁₁ = c₁₀ .before in
+    let c₁₂ = c₁₁ .before in
+    let c₁₄ = c₁₂ .before .before in
+    let a = c₁₄ .args in
     let l = c .before .loop in
-    let n = c .before .before .before .before .before .before .before .before .before .before .before .before .count .result in
-    let s = 16 * c .before .before .before .before .before .before .before .before .before .before .before .groups .result in
-    let e = stride-is (c .before .before .before .before .before .before .before .before .before .before .before) in
-    let S = sized (a .self) _ (c .before .before .before .before .before .before .before .before .before .before .before .before .before .before .good .0) in
+    let n = c₁₂ .count .result in
+    let s = 16 * c₁₁ .groups .result in
+    let e = stride-is c₁₁ in
+    let S = sized (a .self) _ (c₁₄ .good .0) in
     let b = bankOf (a .self .voices) (a .self .timing) (l .lanes) (l .u) (l .r) (l .d) (l .scale) (l .base) (l .left) in
     let f : l .done ≡ length (a .out .now) / s = omega (arith, c .loop-test .left) in
     let R = subst (λ (d : ℕ). Ran n s (a .self) d b (l .out)) f (l .inv .4) in
-    let p : 0 < s = omega (arith, grouped (c .before .before .before .before .before .before .before .before .before .before .before)) in
-    let w : length (a .out .now) % s ≡ 0 = omega (arith, c .before .before .before .before .before .before .before .before .before .before .if1 .left) in (
-      done-answer (a .self) (a .out .now) s e n (c .before .before .before .before .before .before .before .before .before .before .before .before .count .ensures) S b (l .out) w p R,
-      done-levels (a .self) (a .out .now) s e n (c .before .before .before .before .before .before .before .before .before .before .before .before .count .ensures) S b (l .out) w p R (l .inv .1),
+    let p : 0 < s = omega (arith, grouped c₁₁) in
+    let w : length (a .out .now) % s ≡ 0 = omega (arith, c₁₀ .if1 .left) in (
+      done-answer (a .self) (a .out .now) s e n (c₁₂ .count .ensures) S b (l .out) w p R,
+      done-levels (a .self) (a .out .now) s e n (c₁₂ .count .ensures) S b (l .out) w p R (l .inv .1),
     )
 
 pub process-spec : {M : Type 1} → statement M

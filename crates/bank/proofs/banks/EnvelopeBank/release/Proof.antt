@@ -1,5 +1,5 @@
 use mathlib.Core.Path.{_∙_}
-use Prim.Native.Nat.{_+_, _-_}
+use Prim.Native.Nat.{_+_}
 use borrow.Author.Needs.{needs}
 use Rattle.bank.specs.declared.calls.Change.the-variants.{Release}
 use Rattle.bank.specs.Calls.{Call, refusal}

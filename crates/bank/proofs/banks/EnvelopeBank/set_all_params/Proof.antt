@@ -1,12 +1,12 @@
 use mathlib.Core.Path.{_≡_, ap, _∙_}
-use Prim.Native.Nat.{ℕ, _+_, _-_}
+use Prim.Native.Nat.{ℕ, _+_}
+use native.Mathlib.Nat.{zero-add}
 use borrow.Author.Needs.{needs}
 use Rattle.bank.specs.declared.calls.Change.the-variants.{Params}
 use Rattle.bank.specs.Calls.{Call, refusal}
 use Rattle.bank.specs.Banks.{size, arrange, onAll, moved}
 use Rattle.bank.specs.Parts.{changed, spread}
 use Rattle.bank.proofs.Spread.{spread-every, answer-is}
-use native.Mathlib.Nat.{zero-add}
 use Rattle.bank.proofs.banks.EnvelopeBank.set_all_params.Statement.{statement}
 use Rattle.bank.proofs.banks.EnvelopeBank.set_all_params.Tie as tie
 
@@ -22,7 +22,8 @@ with-requires c κs = search needs
 returns : tie.Need-returns
 unfolding refusal moved changed onAll arrange
 returns c =
-    let a = c .before .before .before .args in
+    let c₃ = c .before .before .before in
+    let a = c₃ .args in
     let f = changed (a .self .timing) (Params (a .params)) in
     let n : 0 + c .before .count .result ≡ size (a .self) = zero-add _ ∙ c .before .count .ensures in
     c .with .ensures

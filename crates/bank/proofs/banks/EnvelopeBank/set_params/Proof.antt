@@ -1,18 +1,13 @@
 use mathlib.Core.Path.{_∙_}
-use Prim.Native.Nat.{_+_, _-_}
+use Prim.Native.Nat.{_+_}
 use native.Mathlib.Omega.{arith}
 use borrow.Author.Needs.{needs}
 use lib.Dec.{ltb}
+use Rattle.lane.specs.Refusals as Refusals
 use Rattle.bank.specs.declared.calls.Change.the-variants.{Params}
 use Rattle.bank.specs.Calls.{Call, refusal}
 use Rattle.bank.specs.Banks.{voice, size, moved}
 use Rattle.bank.specs.Parts.{changed, spread}
-use Rattle.bank.proofs.Spread.{spread-one, answered-refused, answer-is, missing, present, named-lane}
-use Rattle.lane.specs.Refusals as Refusals
-use mathlib.Core.Path.{_∙_}
-use Prim.Native.Nat.{_+_, _-_}
-use Rattle.bank.specs.declared.calls.Change.the-variants.{Params}
-use Rattle.bank.specs.Banks.{voice, moved}
 use Rattle.bank.proofs.Spread.{spread-one, answered-refused, answer-is, missing, present, named-lane}
 use Rattle.bank.proofs.banks.EnvelopeBank.set_params.Statement.{statement}
 use Rattle.bank.proofs.banks.EnvelopeBank.set_params.Tie as tie
@@ -35,14 +30,17 @@ refused-params-requires c κs = search needs
 
 with-requires : tie.Need-with-requires
 with-requires c κs =
-    let a = c .before .before .before .args in
+    let c₃ = c .before .before .before in
+    let a = c₃ .args in
     λ e. named-lane (a .voice) (a .self .voices) (c .before .before .refused .result) (c .before .before .refused .ensures) (omega (arith, c .before .if1 .left))
 
 returns-2 : tie.Need-returns-2
 unfolding refusal moved changed
 returns-2 c =
-    let a = c .before .before .before .before .args in
-    let q = c .before .before .before .refused in
+    let c₃ = c .before .before .before in
+    let c₄ = c₃ .before in
+    let a = c₄ .args in
+    let q = c₃ .refused in
     let f = changed (a .self .timing) (Params (a .params)) in
     c .with .ensures
     ∙ answer-is (a .self) (spread (a .self .timing) (a .voice) (a .voice + 1) f (a .self)) (Call.setParams (a .voice) (a .params)) _

@@ -7,12 +7,6 @@ use Rattle.bank.specs.Parts.{changed, spread}
 use Rattle.bank.proofs.Lanes.{Lanes, bankOf}
 use Rattle.bank.proofs.Owned.{sized}
 use Rattle.bank.proofs.Spread.{answered-refused, answered-accepted, within, spread-none, spread-more, spread-all}
-use mathlib.Core.Path.{_≡_}
-use Prim.Native.Nat.{_+_, _-_, _≤_}
-use Rattle.bank.specs.Banks.{blank}
-use Rattle.bank.specs.Parts.{changed}
-use Rattle.bank.proofs.Lanes.{Lanes, bankOf}
-use Rattle.bank.proofs.Spread.{within, spread-none, spread-more}
 use Rattle.bank.proofs.banks.EnvelopeBank.with.Statement.{statement}
 use Rattle.bank.proofs.banks.EnvelopeBank.with.Tie as tie
 
@@ -30,15 +24,20 @@ returns : tie.Need-returns Inv-loop μ-loop
 returns c = answered-refused (c .before .args .refusal) _ (c .before .args .self) (c .if1 .taken)
 
 add-end : tie.Need-add-end Inv-loop μ-loop
-add-end c = record { fits = omega (arith, c .before .before .before .before .before .before .before .before .pre (c .before .before .before .before .before .before .before .if1 .left)) }
+add-end c =
+    let c₇ = c .before .before .before .before .before .before .before in
+    let c₈ = c₇ .before in
+    record { fits = omega (arith, c₈ .pre (c₇ .if1 .left)) }
 
 loop-holds : tie.Need-loop-holds Inv-loop μ-loop
 loop-holds c =
-    let a = c .before .before .before .before .before .before .before .before .args in (
+    let c₇ = c .before .before .before .before .before .before .before in
+    let c₈ = c₇ .before in
+    let a = c₈ .args in (
       search needs,
       search needs,
-      c .before .before .before .before .before .before .before .before .pre (c .before .before .before .before .before .before .before .if1 .left),
-      spread-none (a .timing) (changed (a .timing) (a .change)) (a .self) (a .first) (sized (a .self) _ (c .before .before .before .before .before .before .before .before .good .0)),
+      c₈ .pre (c₇ .if1 .left),
+      spread-none (a .timing) (changed (a .timing) (a .change)) (a .self) (a .first) (sized (a .self) _ (c₈ .good .0)),
     )
 
 mul-lane : tie.Need-mul-lane Inv-loop μ-loop
@@ -137,25 +136,30 @@ loop-less c = search needs
 loop-again : tie.Need-loop-again Inv-loop μ-loop
 unfolding blank
 loop-again c =
-    let a = c .before .before .before .before .before .before .before .before .before .before .before .before .before .before .args in
-    let l = c .before .before .before .before .before .loop in
+    let c₄ = c .before .before .before .before in
+    let c₅ = c₄ .before in
+    let c₁₄ = c₅ .before .before .before .before .before .before .before .before .before in
+    let a = c₁₄ .args in
+    let l = c₅ .loop in
     let f = changed (a .timing) (a .change) in (
       search needs,
       search needs,
       l .inv .2,
       spread-more (a .timing) f (a .self) (a .first) (bankOf (a .self .voices) (a .timing) (l .lanes) (l .u) (l .r) (l .d) (l .scale) (l .base) (l .left))
-          (l .v) (c .before .before .changed .result) (l .inv .3) (l .inv .0) (omega (arith, l .inv .2, c .before .before .before .before .loop-test .taken)) (c .before .before .changed .ensures),
+          (l .v) (c .before .before .changed .result) (l .inv .3) (l .inv .0) (omega (arith, l .inv .2, c₄ .loop-test .taken)) (c .before .before .changed .ensures),
     )
 
 returns-2 : tie.Need-returns-2 Inv-loop μ-loop
 returns-2 c =
-    let a = c .before .before .before .before .before .before .before .before .before .before .args in
+    let c₉ = c .before .before .before .before .before .before .before .before .before in
+    let c₁₀ = c₉ .before in
+    let a = c₁₀ .args in
     let l = c .before .loop in
     let f = changed (a .timing) (a .change) in
     let b = bankOf (a .self .voices) (a .timing) (l .lanes) (l .u) (l .r) (l .d) (l .scale) (l .base) (l .left) in
     let e : l .v ≡ a .first + a .many = omega (arith, c .loop-test .left, l .inv .1) in
     let all = spread-all (a .timing) f (a .self) (a .first) b (l .v) (l .inv .3) in
-    answered-accepted (a .refusal) b (spread (a .timing) (a .first) (a .first + a .many) f (a .self)) (a .self) (omega (arith, c .before .before .before .before .before .before .before .before .before .if1 .left))
+    answered-accepted (a .refusal) b (spread (a .timing) (a .first) (a .first + a .many) f (a .self)) (a .self) (omega (arith, c₉ .if1 .left))
     (all ∙ ap (λ (n : ℕ). spread (a .timing) (a .first) n f (a .self)) e)
 
 pub with-spec : {M : Type 1} → statement M
