@@ -39,12 +39,13 @@ pub const SUBSTITUTIONS: [Substitution; 7] = [
     // Not carried over, and not among the files.
     row("mod.rs", "pub mod law;", "", 1),
     row("mod.rs", "#[cfg(test)]\nmod tests;", "", 1),
-    // A still group is drawn by the formula like any other. The shortcut
-    // would answer a base of negative zero itself.
+    // A still group is drawn by the formula like any other, unless the
+    // measurements ask for the Rust's shortcut, which would answer a base of
+    // negative zero itself.
     row(
         "mod.rs",
         "if scale[lanes.clone()].iter().all(|&s| s == 0.0)",
-        "if false",
+        "if crate::simd::still_shortcut() && scale[lanes.clone()].iter().all(|&s| s == 0.0)",
         1,
     ),
 ];

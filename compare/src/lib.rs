@@ -37,6 +37,7 @@ pub mod settings;
 pub mod simd;
 pub mod stand_ins;
 pub mod stored;
+pub mod takes;
 pub mod times;
 
 /// The derived Rust.

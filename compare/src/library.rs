@@ -78,16 +78,45 @@ mod lent {
             out: *mut f32,
             len: usize,
         ) -> u32;
+
+        pub fn worfelli_take(
+            sample_rate: f64,
+            attack: f32,
+            decay: f32,
+            sustain: f32,
+            kind: u32,
+            calls: u32,
+            blocks: u32,
+            out: *mut f32,
+            len: usize,
+        ) -> u32;
     }
 }
 
 /// Exports that write to lent memory.
-pub const LENT: &[Export] = &[Export {
-    name: "note",
-    symbol: "worfelli_note",
-    arguments: &["f64", "f32", "f32", "f32", "&mut [f32]"],
-    result: "u32",
-}];
+pub const LENT: &[Export] = &[
+    Export {
+        name: "note",
+        symbol: "worfelli_note",
+        arguments: &["f64", "f32", "f32", "f32", "&mut [f32]"],
+        result: "u32",
+    },
+    Export {
+        name: "take",
+        symbol: "worfelli_take",
+        arguments: &[
+            "f64",
+            "f32",
+            "f32",
+            "f32",
+            "u32",
+            "u32",
+            "u32",
+            "&mut [f32]",
+        ],
+        result: "u32",
+    },
+];
 
 /// The first levels of a new note on a fresh envelope of the Rust's AMP with
 /// this attack, decay and sustain. Answers the refusal's number, or 0.
@@ -100,6 +129,53 @@ pub fn note(sample_rate: f64, attack: f32, decay: f32, sustain: f32, out: &mut [
             attack,
             decay,
             sustain,
+            out.as_mut_ptr(),
+            out.len(),
+        )
+    }
+}
+
+/// Calls of one kind on the voices of a bank in turn.
+#[derive(Clone, Copy, Debug)]
+pub enum Kind {
+    /// A new note.
+    Trigger,
+    /// A new note and its release.
+    Release,
+    /// The settings that the voice has.
+    Settings,
+}
+
+/// What is asked of a fresh bank of 64 voices, each with the Rust's AMP and
+/// this attack, decay and sustain: so many calls, then so many blocks.
+#[derive(Clone, Copy, Debug)]
+pub struct Take {
+    pub sample_rate: f64,
+    pub attack: f32,
+    pub decay: f32,
+    pub sustain: f32,
+    pub kind: Kind,
+    pub calls: u32,
+    pub blocks: u32,
+}
+
+/// Plays `take`; each block goes to `out`. Answers the refusal's number, or 0.
+pub fn take(take: Take, out: &mut [f32]) -> u32 {
+    let kind = match take.kind {
+        Kind::Trigger => 0,
+        Kind::Release => 1,
+        Kind::Settings => 2,
+    };
+    // SAFETY: as for `note`.
+    unsafe {
+        lent::worfelli_take(
+            take.sample_rate,
+            take.attack,
+            take.decay,
+            take.sustain,
+            kind,
+            take.calls,
+            take.blocks,
             out.as_mut_ptr(),
             out.len(),
         )

@@ -3,6 +3,21 @@
 //! operation per lane. The Rust's own is not among its sources.
 
 use std::ops::{Add, Mul};
+use std::sync::atomic::{AtomicBool, Ordering};
+
+static STILL_SHORTCUT: AtomicBool = AtomicBool::new(false);
+
+/// Whether a group of lanes that stand still is drawn by the Rust's shortcut.
+/// Comparisons leave it off; measurements are fair to the Rust with it.
+#[must_use]
+pub fn still_shortcut() -> bool {
+    STILL_SHORTCUT.load(Ordering::Relaxed)
+}
+
+/// Turns the shortcut on, for good.
+pub fn use_still_shortcut() {
+    STILL_SHORTCUT.store(true, Ordering::Relaxed);
+}
 
 /// An instruction set that lanes can run on.
 #[derive(Clone, Copy, Debug, PartialEq, Eq)]

@@ -3,8 +3,11 @@
 
 use compare::library::{Export, LENT, NUMBERS};
 
-/// The source of the exports.
-const SOURCE: &str = include_str!("../../crates/exports/src/lib.rt");
+/// The sources of the exports.
+const SOURCES: [&str; 2] = [
+    include_str!("../../crates/exports/src/lib.rt"),
+    include_str!("../../crates/exports/src/banks.rt"),
+];
 
 /// A declaration as one line, `name(type, type) -> type`.
 fn shown(name: &str, arguments: &[&str], result: &str) -> String {
@@ -38,7 +41,7 @@ fn declared_as_exported() {
         .chain(LENT)
         .map(|export: &Export| shown(export.symbol, export.arguments, export.result))
         .collect();
-    let mut exported = exported(SOURCE);
+    let mut exported: Vec<String> = SOURCES.into_iter().flat_map(exported).collect();
     declared.sort();
     exported.sort();
     assert_eq!(declared, exported);

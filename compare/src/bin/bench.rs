@@ -1,6 +1,6 @@
-//! Measures the number helpers and notes of the single envelope beside their
-//! Rust counterparts, and prints nanoseconds as Markdown tables. It asserts
-//! nothing about time.
+//! Measures the number helpers, notes of the single envelope, and blocks and
+//! calls of the bank beside their Rust counterparts, and prints nanoseconds as
+//! Markdown tables. It asserts nothing about time.
 //!
 //! Inputs and results go through `black_box`, so that no call is computed
 //! ahead, shared or dropped. Ours is necessarily a call into another library,
@@ -16,15 +16,18 @@ use std::process::ExitCode;
 use std::time::Instant;
 
 use compare::arguments::BAD_ARGUMENTS;
-use compare::library;
+use compare::library::{self, Kind, Take};
 use compare::random::Random;
 use compare::rust::envelope::{Envelope, EnvelopeParams, Timing, Trigger};
+use compare::simd;
 use compare::stand_ins;
+use compare::takes::{self, VOICES};
 
 const HELP: &str = "\
-Measures the number helpers and notes of the Rattle library and of the Rust on
-the same inputs, in turns, and prints the median nanoseconds per call, or per
-frame of a note, as Markdown tables. It takes no arguments.";
+Measures the number helpers, notes, and blocks and calls of a bank of the Rattle
+library and of the Rust on the same inputs, in turns, and prints the median
+nanoseconds per call, per frame of a note, or per voice and frame of a block, as
+Markdown tables. It takes no arguments.";
 
 const SEED: u64 = 0x776f_7266_656c_6c69;
 const INPUTS: usize = 4096;
@@ -101,6 +104,9 @@ fn main() -> ExitCode {
     conversions(&mut random);
     steps(&mut random);
     notes();
+    simd::use_still_shortcut();
+    blocks();
+    calls();
     ExitCode::SUCCESS
 }
 
@@ -207,6 +213,80 @@ fn per_frame(repeats: usize, out: &mut [f32], note: fn(Note, &mut [f32]), number
         black_box(&mut *out);
     }
     start.elapsed().as_nanos() as f64 / (repeats * out.len()) as f64
+}
+
+/// A bent decay that outlasts every measurement, on all 64 voices.
+const BENT: Take = Take {
+    sample_rate: 48_000.0,
+    attack: 0.0,
+    decay: 600_000.0,
+    sustain: 0.25,
+    kind: Kind::Trigger,
+    calls: VOICES as u32,
+    blocks: 0,
+};
+
+/// Blocks of 64 voices, all in a bent stage or all idle.
+fn blocks() {
+    println!(
+        "\n| 64 voices | Frames of a block | Ours, ns a voice-sample | Rust, ns a voice-sample | Ratio |"
+    );
+    println!("|---|---:|---:|---:|---:|");
+    for (about, calls) in [("bent", BENT.calls), ("idle", 0)] {
+        for frames in [1, 16, 64, 256, 1024] {
+            let blocks = ((1 << 14) / frames).max(64);
+            let take = Take {
+                calls,
+                blocks,
+                ..BENT
+            };
+            let samples = f64::from(blocks * frames) * VOICES as f64;
+            let (ours, rust) = takes(take, frames as usize, samples);
+            println!(
+                "| {about} | {frames} | {ours:.3} | {rust:.3} | {:.2} |",
+                ours / rust
+            );
+        }
+    }
+}
+
+/// Calls on one voice of 64 after the other.
+fn calls() {
+    const CALLS: u32 = 1 << 14;
+    println!("\n| A call on one of 64 voices | Ours, ns | Rust, ns | Ratio |");
+    println!("|---|---:|---:|---:|");
+    for (about, kind, each) in [
+        ("new note", Kind::Trigger, 1.0),
+        ("new note, then its release, each", Kind::Release, 2.0),
+        ("settings that it has", Kind::Settings, 1.0),
+    ] {
+        let take = Take {
+            kind,
+            calls: CALLS,
+            blocks: 1,
+            ..BENT
+        };
+        let (ours, rust) = takes(take, 1, f64::from(CALLS) * each);
+        println!("| {about} | {ours:.0} | {rust:.0} | {:.2} |", ours / rust);
+    }
+}
+
+/// The median nanoseconds of `take` on both sides, in turns, over `parts`.
+fn takes(take: Take, frames: usize, parts: f64) -> (f64, f64) {
+    let (mut out, mut expected) = (vec![0.0; frames * VOICES], vec![0.0; frames * VOICES]);
+    library::take(take, &mut out);
+    takes::take(take, &mut expected);
+    assert_eq!(out, expected, "the levels of {take:?}");
+    let (mut ours, mut rust) = (Vec::new(), Vec::new());
+    for _ in 0..REPETITIONS {
+        let start = Instant::now();
+        library::take(black_box(take), &mut out);
+        ours.push(start.elapsed().as_nanos() as f64 / parts);
+        let start = Instant::now();
+        takes::take(black_box(take), &mut expected);
+        rust.push(start.elapsed().as_nanos() as f64 / parts);
+    }
+    (median(ours), median(rust))
 }
 
 /// Whether calls may overlap, or each ends before the next begins.

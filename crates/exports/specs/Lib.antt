@@ -1,3 +1,4 @@
 -- What C's numbers stand for.
 pub mod Clock
 pub mod Note
+pub mod Take

@@ -1,5 +1,8 @@
-// The number helpers, `Timing::samples` and a note of the single envelope for C and Rust to link: the
-// comparison with the Rust calls them. Each is the library's function under a symbol of its own.
+// The number helpers, `Timing::samples`, a note of the single envelope and calls of the bank for C and
+// Rust to link: the comparison with the Rust and the measurements call them. Each is the library's
+// function under a symbol of its own, or a few of its calls.
+mod banks;
+
 ghost use mathlib.Core.Path.{_≡_};
 ghost use lib.IntN.{pos};
 ghost use lib.ListN.{length};

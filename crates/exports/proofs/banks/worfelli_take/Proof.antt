@@ -1,0 +1,112 @@
+use mathlib.Core.Path.{_≡_, refl, sym, ap, ap₂, _∙_, subst}
+use mathlib.Core.List.{List}
+use Prim.Native.Nat.{ℕ, zero, suc, _-_, _<_}
+use native.Mathlib.Omega.{arith}
+use borrow.Author.Needs.{needs}
+use lib.Ieee.{Float}
+use lib.ListN.{length}
+use Rattle.timing.specs.declared.Timing.{Timing}
+use Rattle.lane.specs.declared.settings.EnvelopeParams.{EnvelopeParams}
+use Rattle.bank.specs.declared.banks.EnvelopeBank.{EnvelopeBank}
+use Rattle.bank.specs.declared.banks.Answer.{Answer}
+use Rattle.bank.specs.Calls.{Call, opening}
+use Rattle.exports.proofs.banks.worfelli_take.Statement.{statement}
+use Rattle.bank.specs.Banks as Banks
+use Rattle.exports.specs.Note as Note
+use Rattle.exports.specs.Take as Take
+use Rattle.exports.proofs.banks.worfelli_take.Tie as tie
+
+one-more : (n : ℕ) (b : EnvelopeBank) (out : List Float) → 0 < n
+    → Take.blocks n b out ≡ Take.blocks (n - 1) (Take.after (Call.process (length out)) b) (Banks.written b out)
+one-more zero b out h = absurd (omega arith)
+one-more (suc n) b out h =
+    let e : n ≡ suc n - 1 = omega arith in
+    ap (λ (m : ℕ). Take.blocks m (Take.after (Call.process (length out)) b) (Banks.written b out)) e
+
+abbrev Inv-loop : tie.InvT-loop
+Inv-loop sample-rate attack decay sustain kind calls blocks out₀ answer bank₀ rest₀ out bank rest = (length out ≡ length out₀) × (Take.blocks rest bank out ≡ Take.blocks blocks bank₀ out₀)
+
+abbrev μ-loop : tie.MeasureT-loop
+μ-loop sample-rate attack decay sustain kind calls blocks out₀ answer bank₀ rest₀ out bank rest = rest
+
+settings-requires : tie.Need-settings-requires Inv-loop μ-loop
+settings-requires c κs = search needs
+
+new-requires : tie.Need-new-requires Inv-loop μ-loop
+new-requires c κs = search needs
+
+new-requires-2 : tie.Need-new-requires-2 Inv-loop μ-loop
+new-requires-2 c κs = search needs
+
+repeated-requires : tie.Need-repeated-requires Inv-loop μ-loop
+repeated-requires c κs = search needs
+
+loop-holds : tie.Need-loop-holds Inv-loop μ-loop
+loop-holds c = (refl, refl)
+
+process-requires : tie.Need-process-requires Inv-loop μ-loop
+process-requires c κs = search needs
+
+sub-rest : tie.Need-sub-rest Inv-loop μ-loop
+sub-rest c = search needs
+
+loop-less : tie.Need-loop-less Inv-loop μ-loop
+loop-less c = search needs
+
+loop-again : tie.Need-loop-again Inv-loop μ-loop
+loop-again c =
+    let c₃ = c .before .before .before in
+    let c₅ = c₃ .before .before in
+    let c₆ = c₅ .before in
+    let l = c₆ .loop in
+    let q = c₃ .process in (
+      q .kept .1 .0 ∙ l .inv .0,
+      ap₂ (λ (x : Answer) (out : List Float). Take.blocks (l .rest - 1) (x .bank) out) (q .ensures .0) (q .ensures .1)
+          ∙ sym (one-more (l .rest) (l .bank) (l .out) (c₅ .loop-test .taken))
+          ∙ l .inv .1,
+    )
+
+same-length : tie.Need-same-length Inv-loop μ-loop
+same-length c = search needs
+
+returns : tie.Need-returns Inv-loop μ-loop
+returns c =
+    let c₃ = c .before .before .before in
+    let c₄ = c₃ .before in
+    let c₅ = c₄ .before in
+    let c₇ = c₅ .before .before in
+    let a = c₇ .args in
+    let l = c .before .loop in
+    let p = Note.settings (a .attack) (a .decay) (a .sustain) in
+    let b = Take.fresh (a .sample-rate) (a .attack) (a .decay) (a .sustain) in
+    let opened : c₃ .new2 .result ≡ b =
+    c₃ .new2 .ensures
+    ∙ ap₂ (λ (p : EnvelopeParams) (t : Timing). Banks.new (opening 64 p t)) (c₅ .settings .ensures) (c₄ .new .ensures)
+    in
+    let called : c .before .before .repeated .result ≡ Take.repeated (a .kind) (a .calls) 0 p (b .bank) =
+    c .before .before .repeated .ensures
+    ∙ ap₂ (λ (p : EnvelopeParams) (x : Answer). Take.repeated (a .kind) (a .calls) 0 p (x .bank)) (c₅ .settings .ensures) opened
+    in
+    let e : l .rest ≡ 0 = omega (arith, c .loop-test .left) in (
+      ap (λ (x : Answer). x .refusal) opened,
+      subst (λ (n : ℕ). Take.blocks n (l .bank) (l .out) ≡ Take.blocks (a .blocks) (c .before .before .repeated .result) (a .out .now)) e (l .inv .1)
+          ∙ ap (λ (x : EnvelopeBank). Take.blocks (a .blocks) x (a .out .now)) called,
+    )
+
+pub worfelli-take-spec : {M : Type 1} → statement M
+worfelli-take-spec =
+    tie.close
+    (tie.spec
+    Inv-loop
+    μ-loop
+    settings-requires
+    new-requires
+    new-requires-2
+    repeated-requires
+    loop-holds
+    process-requires
+    sub-rest
+    loop-less
+    loop-again
+    same-length
+    returns)
