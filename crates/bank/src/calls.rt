@@ -103,8 +103,8 @@ impl EnvelopeBank {
     }
 
     // The answer of a call that this number refuses, or else keeps `timing` and changes the `many`
-    // voices from `first` on. The arrays are changed as locals, which costs two copies of the bank
-    // where its own fields would cost four.
+    // voices from `first` on. The arrays are changed as locals, since stores into the fields of `self`
+    // make the compiled code copy the bank more often.
     fn with(self, refusal: u32, timing: Timing, first: usize, many: usize, change: Change) -> Answer
         requires { ⌜ (refusal ≡ 0 → first + many ≤ 64) ⌝ }
         ensures { λ r. ⌜ r ≡ Parts.answered refusal (Parts.spread timing first (first + many) (Parts.changed timing change) self) self ⌝ }

@@ -2,71 +2,20 @@
 use mathlib.Core.Path.{_≡_}
 use mathlib.Core.Bool.{true, false}
 use lib.IntN.{pos, negsuc}
-use lib.Ieee.{Float, nan, fin, binary64, ofBits}
-use Rattle.numbers.specs.Constants.{zero, half}
+use lib.Ieee.{nan, fin, binary64, ofBits}
+use Rattle.numbers.specs.Constants.{zero}
 use Rattle.numbers.specs.Limits.{unit}
 use Rattle.numbers.specs.Conversions.{roundU64}
 use Rattle.numbers.specs.StandIns.{expM1}
-use Rattle.timing.specs.declared.Timing.{Timing}
 use Rattle.timing.specs.declared.TimeUnit.the-variants.{Milliseconds, Tempo}
 use Rattle.timing.specs.Clock as Clock
 use Rattle.timing.specs.Clock.{withTempo, withScale}
 use Rattle.timing.specs.Samples.{samples}
-use Rattle.lane.specs.declared.settings.EnvelopeParams.{EnvelopeParams}
-use Rattle.lane.specs.declared.settings.StealRestart.the-variants.{CurrentLevel}
-use Rattle.lane.specs.declared.settings.Trigger.the-variants.{New}
 use Rattle.lane.specs.declared.stages.Stage.the-variants.{Attack, Decay, Sustain}
-use Rattle.lane.specs.declared.lanes.Voice.{Voice}
 use Rattle.lane.specs.Planning.{new, spec, joinAttack, advance}
-use Rattle.lane.specs.Voices.{trigger, setParams, frames}
 use Rattle.lane.specs.Readings.{rest}
+use Rattle.lane.specs.Bench.{clock, settings, long, decaying, replanned, threeEighths}
 use Rattle.bank.specs.Calls.{strideOf}
-
--- ---- the voices that the table speaks of
-
--- A millisecond is a sample.
-abbrev pub clock : Timing
-clock = Clock.new (fin false 125 (pos 3))
-
--- Attack and decay in milliseconds; straight, from 0 up to 1 and down to half.
-abbrev pub settings : Float → Float → EnvelopeParams
-settings attack decay =
-    record {
-      unit = Milliseconds;
-      delay = zero;
-      attack = attack;
-      hold = zero;
-      decay = decay;
-      sustain = half;
-      release = zero;
-      «attack_curve» = half;
-      «decay_curve» = half;
-      «release_curve» = half;
-      start = zero;
-      end = zero;
-      «legato_inverted» = false;
-      «steal_restart» = CurrentLevel;
-    }
-
-abbrev pub struck : EnvelopeParams → Voice
-struck p = trigger clock New (new p)
-
--- An attack of 16,385 samples.
-abbrev pub long : Voice
-long = struck (settings (fin false 16385 (pos 0)) zero)
-
--- Three samples into a decay of 4, and that decay with another time.
-abbrev pub decaying : Voice
-decaying = frames 3 clock (struck (settings zero (fin false 1 (pos 2))))
-
-abbrev pub replanned : Float → Voice
-replanned decay = setParams clock (settings zero decay) decaying
-
--- 0.375.
-abbrev pub threeEighths : Float
-threeEighths = fin false 3 (negsuc 2)
-
--- ---- the table
 
 pub record Bench : Type 0 where
   -- unit(NaN) = unit(-0) = +0.
