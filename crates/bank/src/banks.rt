@@ -1,7 +1,7 @@
 // The bank: its lanes in arrays, one for each number of a segment, so that sixteen of them are drawn
 // at once.
 ghost use mathlib.Core.Path.{_≡_};
-ghost use Prim.Native.Nat.{_≤_, min};
+ghost use Prim.Native.Nat.{min};
 ghost use Rattle.bank.specs.Banks as Banks;
 ghost use Rattle.bank.specs.Calls as Calls;
 use lane::ACCEPTED;
@@ -57,6 +57,16 @@ pub(crate) fn groups(voices: usize) -> usize
     4
 }
 
+// Whether a fresh bank of these is refused.
+fn refused(voices: usize, params: EnvelopeParams, timing: Timing) -> u32
+    ensures { λ r. ⌜ r ≡ Calls.openingRefusal (Calls.opening voices params timing) ⌝ }
+{
+    if voices > MAX_VOICES {
+        return TOO_MANY_VOICES;
+    }
+    lane::refused_fresh(params, timing)
+}
+
 // Idle envelopes.
 fn idle(voices: usize, params: EnvelopeParams, timing: Timing) -> EnvelopeBank
     ensures { λ r. ⌜ r ≡ Banks.idle voices params timing ⌝ }
@@ -110,14 +120,4 @@ impl EnvelopeBank {
     {
         16 * groups(self.voices)
     }
-}
-
-// Whether a fresh bank of these is refused.
-fn refused(voices: usize, params: EnvelopeParams, timing: Timing) -> u32
-    ensures { λ r. ⌜ r ≡ Calls.openingRefusal (Calls.opening voices params timing) ⌝ }
-{
-    if voices > MAX_VOICES {
-        return TOO_MANY_VOICES;
-    }
-    lane::refused_fresh(params, timing)
 }

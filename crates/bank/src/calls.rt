@@ -165,6 +165,18 @@ impl EnvelopeBank {
         }
     }
 
+    // A voice's settings.
+    pub fn params(self, voice: usize) -> ParamsReading
+        ensures { λ r. ⌜ Replies.ofParams r ≡ Replies.reply self (Call.ask (Query.params voice)) ⌝ }
+    {
+        if voice < count(self.voices) {
+            let held = self.load(voice);
+            let params = held.lane.params;
+            return ParamsReading::Params(params);
+        }
+        ParamsReading::NoSuchVoice
+    }
+
     // Changes a voice's settings from the next sample. Refused: 2 no such voice, 3 a time over its
     // limit.
     pub fn set_params(self, voice: usize, params: EnvelopeParams) -> Answer
@@ -271,18 +283,6 @@ impl EnvelopeBank {
             refusal: NO_SUCH_VOICE,
             bank: self,
         }
-    }
-
-    // A voice's settings.
-    pub fn params(self, voice: usize) -> ParamsReading
-        ensures { λ r. ⌜ Replies.ofParams r ≡ Replies.reply self (Call.ask (Query.params voice)) ⌝ }
-    {
-        if voice < count(self.voices) {
-            let held = self.load(voice);
-            let params = held.lane.params;
-            return ParamsReading::Params(params);
-        }
-        ParamsReading::NoSuchVoice
     }
 
     // Where a voice is.

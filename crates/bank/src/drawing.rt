@@ -7,7 +7,6 @@ ghost use lib.Dec.{ltb};
 ghost use lib.Ieee.{nan};
 ghost use lib.ListN.{length, getD, replicate};
 ghost use Rattle.numbers.specs.Constants as Constants;
-ghost use Rattle.curve.specs.Segments as Segments;
 ghost use Rattle.envelope.specs.Parts.{Filled};
 ghost use Rattle.bank.specs.Banks as Banks;
 ghost use Rattle.bank.specs.Calls.{Call};
