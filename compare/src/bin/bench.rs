@@ -226,7 +226,8 @@ const BENT: Take = Take {
     blocks: 0,
 };
 
-/// Blocks of 64 voices, all in a bent stage or all idle.
+/// Blocks of 64 voices, all in a bent stage or all idle: so many of them that
+/// opening the bank and its first notes take no part in the figures.
 fn blocks() {
     println!(
         "\n| 64 voices | Frames of a block | Ours, ns a voice-sample | Rust, ns a voice-sample | Ratio |"
@@ -234,7 +235,7 @@ fn blocks() {
     println!("|---|---:|---:|---:|---:|");
     for (about, calls) in [("bent", BENT.calls), ("idle", 0)] {
         for frames in [1, 16, 64, 256, 1024] {
-            let blocks = ((1 << 14) / frames).max(64);
+            let blocks = ((1 << 17) / frames).max(2048);
             let take = Take {
                 calls,
                 blocks,
