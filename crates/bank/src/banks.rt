@@ -57,8 +57,15 @@ pub(crate) fn groups(voices: usize) -> usize
     4
 }
 
+// The lanes of a row of so many voices.
+pub fn stride_of(voices: usize) -> usize
+    ensures { λ r. ⌜ r ≡ Calls.strideOf (min voices 64) ⌝ }
+{
+    16 * groups(voices)
+}
+
 // Whether a fresh bank of these is refused.
-fn refused(voices: usize, params: EnvelopeParams, timing: Timing) -> u32
+pub fn refused_opening(voices: usize, params: EnvelopeParams, timing: Timing) -> u32
     ensures { λ r. ⌜ r ≡ Calls.openingRefusal (Calls.opening voices params timing) ⌝ }
 {
     if voices > MAX_VOICES {
@@ -94,7 +101,7 @@ impl EnvelopeBank {
     pub fn new(voices: usize, params: EnvelopeParams, timing: Timing) -> Answer
         ensures { λ r. ⌜ r ≡ Banks.new (Calls.opening voices params timing) ⌝ }
     {
-        let refusal = refused(voices, params, timing);
+        let refusal = refused_opening(voices, params, timing);
         if refusal != ACCEPTED {
             return Answer {
                 refusal: refusal,
@@ -118,6 +125,6 @@ impl EnvelopeBank {
     pub fn stride(self) -> usize
         ensures { λ r. ⌜ r ≡ Calls.strideOf (Banks.size self) ⌝ }
     {
-        16 * groups(self.voices)
+        stride_of(self.voices)
     }
 }

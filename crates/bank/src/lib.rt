@@ -8,6 +8,8 @@ mod drawing;
 pub use banks::Answer;
 pub use banks::EnvelopeBank;
 pub use banks::MAX_VOICES;
+pub use banks::refused_opening;
+pub use banks::stride_of;
 pub use calls::FramesReading;
 pub use calls::IdleReading;
 pub use calls::LevelReading;

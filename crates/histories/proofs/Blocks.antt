@@ -16,16 +16,16 @@ use Rattle.histories.proofs.Rows.{stride-holds, frames-size, frames-add
 use Rattle.histories.proofs.Stands.{reading-voices, bank-voices}
 
 -- Whole frames are accepted, and pass.
-whole : (k : Known) (a : ℕ) → (refusal k (Call.process (a * strideOf (k .voices))) ≡ 0) × (a * strideOf (k .voices) / strideOf (k .voices) ≡ a)
+pub whole : (k : Known) (a : ℕ) → (refusal k (Call.process (a * strideOf (k .voices))) ≡ 0) × (a * strideOf (k .voices) / strideOf (k .voices) ≡ a)
 unfolding refusal
 whole k a = (rw (mul-mod-left a (strideOf (k .voices))), mul-div-cancel a (stride-holds (k .voices) .1))
 
-block-frames : (b : EnvelopeBank) (n a : ℕ) → size b ≡ n → answer b (Call.process (a * strideOf n)) .bank ≡ frames a b
+pub block-frames : (b : EnvelopeBank) (n a : ℕ) → size b ≡ n → answer b (Call.process (a * strideOf n)) .bank ≡ frames a b
 unfolding answer moved
 block-frames b n a e =
     subst (λ (n : ℕ). answer b (Call.process (a * strideOf n)) .bank ≡ frames a b) e (rw (whole (known b) a .0, whole (known b) a .1))
 
-block-rows : (b : EnvelopeBank) (n a : ℕ) (out : List Float) → size b ≡ n → length out ≡ a * strideOf n → written b out ≡ rows a b
+pub block-rows : (b : EnvelopeBank) (n a : ℕ) (out : List Float) → size b ≡ n → length out ≡ a * strideOf n → written b out ≡ rows a b
 unfolding written
 block-rows b n a out e =
     subst (λ (n : ℕ). length out ≡ a * strideOf n → written b out ≡ rows a b) e (λ f. rw (f, whole (known b) a .0, whole (known b) a .1))

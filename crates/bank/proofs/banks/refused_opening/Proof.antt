@@ -2,8 +2,8 @@ use native.Mathlib.Omega.{arith}
 use borrow.Author.Needs.{needs}
 use borrow.Author.Tests.{lt-ltb, le-ltb}
 use Rattle.bank.specs.Calls.{openingRefusal}
-use Rattle.bank.proofs.banks.refused.Statement.{statement}
-use Rattle.bank.proofs.banks.refused.Tie as tie
+use Rattle.bank.proofs.banks.refused_opening.Statement.{statement}
+use Rattle.bank.proofs.banks.refused_opening.Tie as tie
 
 returns : tie.Need-returns
 unfolding openingRefusal
@@ -16,5 +16,5 @@ returns-2 : tie.Need-returns-2
 unfolding openingRefusal
 returns-2 c = rw (le-ltb 64 (c .before .before .args .voices) (omega (arith, c .before .if1 .left))) (c .refused-fresh .ensures)
 
-pub refused-spec : {M : Type 1} → statement M
-refused-spec = tie.close (tie.spec returns refused-fresh-requires returns-2)
+pub refused-opening-spec : {M : Type 1} → statement M
+refused-opening-spec = tie.close (tie.spec returns refused-fresh-requires returns-2)

@@ -1,0 +1,132 @@
+-- Record after record: the check's loop, and what holds of a list that passed.
+use mathlib.Core.Path.{_≡_, refl, sym, ap, _∙_, subst}
+use mathlib.Core.Bool.{Bool, true, false, cond}
+use mathlib.Core.List.{List}
+use Prim.Native.Nat.{ℕ, zero, suc, _+_, _*_, _-_, _/_, _<_, _≤_}
+use native.Mathlib.Omega.{arith}
+use native.Mathlib.Nat.{le-trans, le-mul-of-pos-right}
+use borrow.Author.Tests.{lt-ltb, le-ltb, ltb-false, ne-eqb, eq-eqb}
+use lib.Dec.{ltb, eqb}
+use lib.ListN.{length}
+use Rattle.bank.specs.Calls.{strideOf, ifAccepted}
+use Rattle.events.specs.declared.Event.{Event}
+use Rattle.events.specs.declared.Reading.{Reading}
+use Rattle.events.specs.Format as Format
+use Rattle.histories.proofs.Rows.{stride-holds}
+use Rattle.checking.specs.declared.Checked.{Checked}
+use Rattle.checking.specs.Checks.{start, refusedAt, passed, judged, met, checkedFrom, checked}
+use Rattle.checking.proofs.Judging.{if-refused, if-accepted, own, judged-passed, passed-few}
+
+-- What the code needs of how far it came: at most 64 voices, and no more frames than levels.
+pub record Held (room : ℕ) (c : Checked) : Type 0 where
+  pub voices : c .voices ≤ 64
+  pub frames : c .frames ≤ room
+
+pub held-start : (room : ℕ) → Held room start
+held-start room = record { voices = omega arith; frames = omega arith }
+
+module _ (room : ℕ) (c : Checked) (e : Event) (next : ℕ) (H : Held room c) where
+  abbrev p : Checked
+  p = passed c e next
+
+  kept : (n : ℕ) → Held room (refusedAt n c)
+  kept n = record { voices = H .voices; frames = H .frames }
+
+  room-left : p .voices ≤ 64 → (t : Bool) → ltb room (p .frames * strideOf (p .voices)) ≡ t → Held room (cond t (refusedAt 11 c) p)
+  room-left few true h = kept 11
+  room-left few false h =
+      record { voices = few; frames = le-trans (le-mul-of-pos-right (p .frames) (stride-holds (p .voices) .1)) (ltb-false room _ h) }
+
+  judged-held : Held room (judged room c e next)
+  unfolding judged
+  judged-held = go (own c e) refl
+    where
+      go : (n : ℕ) → own c e ≡ n → Held room (ifAccepted n (cond (ltb room (p .frames * strideOf (p .voices))) (refusedAt 11 c) p) (refusedAt n c))
+      go zero z = room-left (passed-few c e next (H .voices) z) (ltb room (p .frames * strideOf (p .voices))) refl
+      go (suc n) z = kept (suc n)
+
+pub met-held : (room : ℕ) (c : Checked) (r : Reading) → Held room c → Held room (met room c r)
+unfolding met
+met-held room c (Reading.Record e next) H = judged-held room c e next H
+met-held room c (Reading.Refused n) H = record { voices = H .voices; frames = H .frames }
+
+-- ---- the loop
+
+module _ (l : List ℕ) (room : ℕ) (c : Checked) where
+  pub stopped : (n : ℕ) → (c .refusal ≡ 0 → ⊥) → checkedFrom n l room c ≡ c
+  stopped zero d = refl
+  stopped (suc n) d = if-refused (c .refusal) _ c d
+
+  pub ended : (n : ℕ) → length l ≤ c .at → checkedFrom n l room c ≡ c
+  ended zero h = refl
+  ended (suc n) h = ap (λ (t : Bool). ifAccepted (c .refusal) (cond t (checkedFrom n l room (met room c (Format.read l (c .at)))) c) c) (le-ltb (c .at) (length l) h) ∙ same (c .refusal)
+    where
+      same : (n : ℕ) → ifAccepted n c c ≡ c
+      same zero = refl
+      same (suc n) = refl
+
+  pub one-more : (n : ℕ) → 0 < n → c .refusal ≡ 0 → c .at < length l
+      → checkedFrom n l room c ≡ checkedFrom (n - 1) l room (met room c (Format.read l (c .at)))
+  one-more zero p z h = absurd (omega arith)
+  one-more (suc n) p z h =
+      let e : n ≡ suc n - 1 = omega arith in
+      if-accepted (c .refusal) _ c z ∙ rw (lt-ltb (c .at) (length l) h) (ap (λ (n : ℕ). checkedFrom n l room (met room c (Format.read l (c .at)))) e)
+
+pub none : (l : List ℕ) (bytes : ℕ) → length l ≡ 0 → refusedAt 9 start ≡ checked l bytes
+unfolding checked
+none l bytes z = rw (eq-eqb (length l) 0 z)
+
+pub some : (l : List ℕ) (bytes : ℕ) → (length l ≡ 0 → ⊥) → checkedFrom (length l) l (bytes / 4) start ≡ checked l bytes
+unfolding checked
+some l bytes d = rw (ne-eqb (length l) 0 d)
+
+-- ---- a list that passed
+
+-- A refusal stays.
+pub still : (n : ℕ) (l : List ℕ) (room : ℕ) (c : Checked) → checkedFrom n l room c .refusal ≡ 0 → c .refusal ≡ 0
+still zero l room c z = z
+still (suc n) l room c z = go (c .refusal) refl z
+  where
+    go : (k : ℕ) → c .refusal ≡ k
+        → ifAccepted k (cond (ltb (c .at) (length l)) (checkedFrom n l room (met room c (Format.read l (c .at)))) c) c .refusal ≡ 0 → c .refusal ≡ 0
+    go zero e z = e
+    go (suc k) e z = z
+
+-- A record that is accepted: no number of its own, and room for its frames.
+pub record Accepted (room : ℕ) (c : Checked) (e : Event) (next : ℕ) : Type 0 where
+  pub own : own c e ≡ 0
+  pub fits : passed c e next .frames * strideOf (passed c e next .voices) ≤ room
+  pub is : judged room c e next ≡ passed c e next
+
+pub judged-accepted : (room : ℕ) (c : Checked) (e : Event) (next : ℕ) → judged room c e next .refusal ≡ 0 → Accepted room c e next
+unfolding judged
+judged-accepted room c e next z = go (own c e) refl (ltb room (passed c e next .frames * strideOf (passed c e next .voices))) refl z
+  where
+    go : (n : ℕ) → own c e ≡ n → (t : Bool) → ltb room (passed c e next .frames * strideOf (passed c e next .voices)) ≡ t
+        → ifAccepted n (cond t (refusedAt 11 c) (passed c e next)) (refusedAt n c) .refusal ≡ 0 → Accepted room c e next
+    go zero p false q z =
+        let h = ltb-false room _ q in
+        record { own = p; fits = h; is = sym (judged-passed room c e next p h) }
+    go zero p true q z = absurd (omega arith)
+    go (suc n) p t q z = absurd (omega arith)
+
+-- ---- the whole list
+
+from-held : (n : ℕ) (l : List ℕ) (room : ℕ) (c : Checked) → Held room c → Held room (checkedFrom n l room c)
+from-held zero l room c H = H
+from-held (suc n) l room c H =
+    go (c .refusal) (ltb (c .at) (length l)) (from-held n l room (met room c (Format.read l (c .at))) (met-held room c (Format.read l (c .at)) H))
+  where
+    go : (k : ℕ) (t : Bool) {x : Checked} → Held room x → Held room (ifAccepted k (cond t x c) c)
+    go zero true K = K
+    go zero false K = H
+    go (suc k) t K = H
+
+-- No more frames than the output has room for.
+pub checked-held : (l : List ℕ) (bytes : ℕ) → Held (bytes / 4) (checked l bytes)
+unfolding checked
+checked-held l bytes = go (eqb (length l) 0)
+  where
+    go : (t : Bool) → Held (bytes / 4) (cond t (refusedAt 9 start) (checkedFrom (length l) l (bytes / 4) start))
+    go true = record { voices = omega arith; frames = omega arith }
+    go false = from-held (length l) l (bytes / 4) start (held-start (bytes / 4))

@@ -1,0 +1,79 @@
+use mathlib.Core.Path.{_≡_, _∙_}
+use native.Mathlib.Omega.{arith}
+use Rattle.checking.proofs.Judging.{own, judged-own, stride-some, found-full, found-room}
+use borrow.Author.Needs.{needs}
+use Rattle.checking.proofs.judged.Statement.{statement}
+use Rattle.checking.proofs.judged.Tie as tie
+use Rattle.bank.proofs.stride_of.Reads as stride-of-reads
+use Rattle.checking.proofs.frames_of.Reads as frames-of-reads
+use Rattle.checking.proofs.own_refusal.Reads as own-refusal-reads
+use Rattle.checking.proofs.refused.Reads as refused-reads
+use Rattle.checking.proofs.voices_after.Reads as voices-after-reads
+
+own-refusal-requires : tie.Need-own-refusal-requires
+own-refusal-requires c κs = search needs
+
+refused-requires : tie.Need-refused-requires
+refused-requires c κs = search needs
+
+returns : tie.Need-returns
+returns c =
+    let a = c .before .before .before .args in
+    let o = c .before .before .own-refusal in
+    c .refused .ensures ∙ judged-own (a .room) (a .c) (a .event) (a .next) (o .result) (o .ensures) (c .before .if1 .taken)
+
+voices-after-requires : tie.Need-voices-after-requires
+voices-after-requires c κs = search needs
+
+frames-of-requires : tie.Need-frames-of-requires
+frames-of-requires c κs = search needs
+
+add-frames : tie.Need-add-frames
+add-frames c = record { fits = omega (arith, c .before .frames-of .ensures .1, c .before .before .before .before .before .pre) }
+
+stride-of-requires : tie.Need-stride-of-requires
+stride-of-requires c κs = search needs
+
+div-if2 : tie.Need-div-if2
+div-if2 c = search needs
+
+refused-requires-2 : tie.Need-refused-requires-2
+refused-requires-2 c κs = search needs
+
+returns-2 : tie.Need-returns-2
+returns-2 c =
+    let c₀ = c .before .before in
+    let c₂ = c₀ .before .before in
+    let c₃ = c₂ .before in
+    let c₅ = c₃ .before .before in
+    let c₆ = c₅ .before in
+    let a = c₆ .args in
+    let z : own (a .c) (a .event) ≡ 0 = omega (arith, c₅ .own-refusal .ensures, c₃ .before .if1 .left) in
+    c .refused2 .ensures ∙ found-full (a .room) (a .c) (a .event) (a .next) (c₃ .voices-after .result) (c₂ .frames-of .result) (c₀ .stride-of .result) (c₆ .pre .0) z (c₃ .voices-after .ensures) (c₂ .frames-of .ensures .0) (c₀ .stride-of .ensures) (c .before .if2 .taken)
+
+returns-3 : tie.Need-returns-3
+returns-3 c =
+    let c₀ = c .before in
+    let c₂ = c₀ .before .before in
+    let c₃ = c₂ .before in
+    let c₅ = c₃ .before .before in
+    let c₆ = c₅ .before in
+    let a = c₆ .args in
+    let z : own (a .c) (a .event) ≡ 0 = omega (arith, c₅ .own-refusal .ensures, c₃ .before .if1 .left) in
+    found-room (a .room) (a .c) (a .event) (a .next) (c₃ .voices-after .result) (c₂ .frames-of .result) (c₀ .stride-of .result) (c₆ .pre .0) z (c₃ .voices-after .ensures) (c₂ .frames-of .ensures .0) (c₀ .stride-of .ensures) (omega (arith, c .if2 .left))
+
+pub judged-spec : {M : Type 1} → statement M
+judged-spec =
+    tie.close
+    (tie.spec
+    own-refusal-requires
+    refused-requires
+    returns
+    voices-after-requires
+    frames-of-requires
+    add-frames
+    stride-of-requires
+    div-if2
+    refused-requires-2
+    returns-2
+    returns-3)

@@ -1,0 +1,152 @@
+use mathlib.Core.Path.{sym}
+use borrow.Author.Tests.{lt-ltb, le-ltb}
+use Rattle.bank.specs.Calls.{refusal}
+use Rattle.histories.proofs.Blocks.{whole}
+use Rattle.checking.specs.Deeds.{deed, knownOf, ownRefusal}
+use borrow.Author.Needs.{needs}
+use Rattle.checking.proofs.own_refusal.Statement.{statement}
+use Rattle.checking.proofs.own_refusal.Tie as tie
+use Rattle.bank.proofs.refused_opening.Reads as refused-opening-reads
+use Rattle.checking.proofs.refused_voice.Reads as refused-voice-reads
+use Rattle.lane.proofs.refused_params.Reads as refused-params-reads
+use Rattle.lane.proofs.refused_timing.Reads as refused-timing-reads
+
+enum-known-event : tie.Need-enum-known-event
+enum-known-event c = search needs
+
+cast-refused-opening : tie.Need-cast-refused-opening
+cast-refused-opening c = search needs
+
+refused-opening-requires : tie.Need-refused-opening-requires
+refused-opening-requires c κs = search needs
+
+enum-known-event-2 : tie.Need-enum-known-event-2
+enum-known-event-2 c = search needs
+
+cast-if1 : tie.Need-cast-if1
+cast-if1 c = search needs
+
+refused-params-requires : tie.Need-refused-params-requires
+refused-params-requires c κs = search needs
+
+returns : tie.Need-returns
+unfolding deed ownRefusal refusal
+returns c = simp (c .before .before .before .event2 .given .1, lt-ltb _ _ (c .before .if1 .taken)) (c .refused-params .ensures)
+
+enum-known-event-3 : tie.Need-enum-known-event-3
+enum-known-event-3 c = search needs
+
+refused-params-requires-2 : tie.Need-refused-params-requires-2
+refused-params-requires-2 c κs = search needs
+
+enum-known-event-4 : tie.Need-enum-known-event-4
+enum-known-event-4 c = search needs
+
+refused-timing-requires : tie.Need-refused-timing-requires
+refused-timing-requires c κs = search needs
+
+enum-known-event-5 : tie.Need-enum-known-event-5
+enum-known-event-5 c = search needs
+
+refused-voice-requires : tie.Need-refused-voice-requires
+refused-voice-requires c κs = search needs
+
+enum-known-event-6 : tie.Need-enum-known-event-6
+enum-known-event-6 c = search needs
+
+refused-voice-requires-2 : tie.Need-refused-voice-requires-2
+refused-voice-requires-2 c κs = search needs
+
+enum-known-event-7 : tie.Need-enum-known-event-7
+enum-known-event-7 c = search needs
+
+refused-voice-requires-3 : tie.Need-refused-voice-requires-3
+refused-voice-requires-3 c κs = search needs
+
+enum-known-event-8 : tie.Need-enum-known-event-8
+enum-known-event-8 c = search needs
+
+cast-if2 : tie.Need-cast-if2
+cast-if2 c = search needs
+
+refused-voice-requires-4 : tie.Need-refused-voice-requires-4
+refused-voice-requires-4 c κs = search needs
+
+returns-2 : tie.Need-returns-2
+unfolding deed ownRefusal refusal
+returns-2 c = simp (c .before .before .before .event8 .given .1, lt-ltb _ _ (c .before .if2 .taken)) (c .refused-voice4 .ensures)
+
+enum-told : tie.Need-enum-told
+enum-told c = search needs
+
+returns-3 : tie.Need-returns-3
+unfolding deed ownRefusal refusal
+returns-3 c = simp (c .before .before .event .given .1) (c .refused-opening .ensures)
+
+returns-4 : tie.Need-returns-4
+unfolding deed ownRefusal refusal
+returns-4 c = simp (c .before .before .event2 .given .1, le-ltb _ _ (c .if1 .left))
+
+returns-5 : tie.Need-returns-5
+unfolding deed ownRefusal refusal
+returns-5 c = simp (c .before .before .event3 .given .1) (c .refused-params2 .ensures)
+
+returns-6 : tie.Need-returns-6
+unfolding deed ownRefusal refusal
+returns-6 c = simp (c .before .before .event4 .given .1) (c .refused-timing .ensures)
+
+returns-7 : tie.Need-returns-7
+unfolding deed ownRefusal refusal
+returns-7 c = simp (c .before .before .event5 .given .1) (c .refused-voice .ensures)
+
+returns-8 : tie.Need-returns-8
+unfolding deed ownRefusal refusal
+returns-8 c = simp (c .before .before .event6 .given .1) (c .refused-voice2 .ensures)
+
+returns-9 : tie.Need-returns-9
+unfolding deed ownRefusal refusal
+returns-9 c = simp (c .before .before .event7 .given .1) (c .refused-voice3 .ensures)
+
+returns-10 : tie.Need-returns-10
+unfolding deed ownRefusal refusal
+returns-10 c = simp (c .before .before .event8 .given .1, le-ltb _ _ (c .if2 .left))
+
+returns-11 : tie.Need-returns-11
+unfolding deed ownRefusal
+returns-11 c = simp (c .enum-told .given .1) (sym (whole (knownOf (c .before .before .args .voices)) _ .0))
+
+pub own-refusal-spec : {M : Type 1} → statement M
+own-refusal-spec =
+    tie.close
+    (tie.spec
+    enum-known-event
+    cast-refused-opening
+    refused-opening-requires
+    enum-known-event-2
+    cast-if1
+    refused-params-requires
+    returns
+    enum-known-event-3
+    refused-params-requires-2
+    enum-known-event-4
+    refused-timing-requires
+    enum-known-event-5
+    refused-voice-requires
+    enum-known-event-6
+    refused-voice-requires-2
+    enum-known-event-7
+    refused-voice-requires-3
+    enum-known-event-8
+    cast-if2
+    refused-voice-requires-4
+    returns-2
+    enum-told
+    returns-3
+    returns-4
+    returns-5
+    returns-6
+    returns-7
+    returns-8
+    returns-9
+    returns-10
+    returns-11)

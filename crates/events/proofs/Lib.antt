@@ -1,0 +1,4 @@
+-- Laws of the format.
+mod Numbers
+mod Tags
+pub mod Records

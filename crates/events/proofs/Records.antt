@@ -1,0 +1,85 @@
+-- An accepted record: it is an open where it is the first, and nowhere else, and the next byte is past its head and within the list.
+use mathlib.Core.Path.{_≡_, refl, sym, _∙_}
+use mathlib.Core.Bool.{Bool, true, false, cond, not}
+use mathlib.Core.List.{List}
+use Prim.Native.Nat.{ℕ, _+_, _≤_}
+use native.Mathlib.Omega.{arith}
+use borrow.Author.Tests.{ltb-false, not-true, not-false}
+use lib.Dec.{ltb, eqb}
+use lib.ListN.{length}
+use Rattle.events.specs.declared.Event.{Event}
+use Rattle.events.specs.declared.Reading.{Reading}
+use Rattle.events.specs.Format.{byte, number, bodyLength, named, ifNamed, meaning, placed, read}
+
+abbrev pub opens : Event → Bool
+opens (Event.Open voices timing params) = true
+opens (Event.SetParams voice params) = false
+opens (Event.SetAllParams params) = false
+opens (Event.SetTiming timing) = false
+opens (Event.Trigger voice trigger) = false
+opens (Event.Release voice) = false
+opens (Event.Reset voice) = false
+opens (Event.Join voice from) = false
+opens (Event.Frames frames) = false
+
+-- A record that a reading accepts is an open if and only if `first`, and the next byte is as P says.
+abbrev Accepts : Bool → (ℕ → Type 0) → Reading → Type 0
+Accepts first P (Reading.Record e next) = (opens e ≡ first) × P next
+Accepts first P (Reading.Refused n) = Unit {0}
+
+by-test : (Q : Reading → Type 0) (t : Bool) {x y : Reading} → (t ≡ true → Q x) → (t ≡ false → Q y) → Q (cond t x y)
+by-test Q true p q = p refl
+by-test Q false p q = q refl
+
+module _ (first : Bool) (P : ℕ → Type 0) (tag : ℕ) (l : List ℕ) (i next : ℕ) (o : eqb tag 1 ≡ first) (p : P next) where
+  abbrev Q : Reading → Type 0
+  Q = Accepts first P
+
+  if-named : (t : Bool) (e : Event) → opens e ≡ eqb tag 1 → Q (ifNamed t e next)
+  if-named t e q = by-test Q t (λ z. (q ∙ o, p)) (λ z. tt)
+
+  meant : Q (meaning tag l i next)
+  unfolding meaning
+  meant =
+      by-test Q (eqb tag 1) (λ e. if-named (named l (i + 25)) _ (sym e)) (λ e.
+      by-test Q (eqb tag 2) (λ z. if-named (named l (i + 1)) _ (sym e)) (λ z.
+      by-test Q (eqb tag 3) (λ z. if-named (named l i) _ (sym e)) (λ z.
+      by-test Q (eqb tag 4) (λ z. (sym e ∙ o, p)) (λ z.
+      by-test Q (eqb tag 5) (λ z. if-named (ltb (byte l (i + 1)) 3) _ (sym e)) (λ z.
+      by-test Q (eqb tag 6) (λ z. (sym e ∙ o, p)) (λ z.
+      by-test Q (eqb tag 7) (λ z. (sym e ∙ o, p)) (λ z.
+      by-test Q (eqb tag 8) (λ z. (sym e ∙ o, p)) (λ z. (sym e ∙ o, p)))))))))
+
+-- Where a record may stand: an open at byte 0 and only there.
+stands : (f o : Bool) → cond f o (not o) ≡ true → o ≡ f
+stands true o e = e
+stands false o e = not-true o e
+
+-- Past the head and within the list.
+abbrev Within : List ℕ → ℕ → ℕ → Type 0
+Within l at next = (at + 3 ≤ next) × (next ≤ length l)
+
+accepted : (l : List ℕ) (at : ℕ) → Accepts (eqb at 0) (Within l at) (read l at)
+unfolding read
+accepted l at =
+    let tag = byte l at in
+    let n = number 2 l (at + 1) in
+    let next = at + 3 + n in
+    let Q : Reading → Type 0 = Accepts (eqb at 0) (Within l at) in
+    by-test Q (ltb (length l) (at + 3)) (λ z. tt) (λ z.
+    by-test Q (ltb (length l) next) (λ z. tt) (λ e.
+    by-test Q (eqb (bodyLength tag) 0) (λ z. tt) (λ z.
+    by-test Q (not (eqb n (bodyLength tag))) (λ z. tt) (λ z.
+    by-test Q (not (placed tag at)) (λ z. tt) (λ d.
+    let o = stands (eqb at 0) (eqb tag 1) (not-false (placed tag at) d) in
+    meant (eqb at 0) (Within l at) tag l (at + 3) next o (omega arith, ltb-false (length l) next e))))))
+
+module _ (l : List ℕ) (at : ℕ) (e : Event) (next : ℕ) (h : read l at ≡ Reading.Record e next) where
+  right : Accepts (eqb at 0) (Within l at) (Reading.Record e next)
+  right = rw h at (accepted l at)
+
+  pub read-first : opens e ≡ eqb at 0
+  read-first = right .0
+
+  pub read-next : (at + 3 ≤ next) × (next ≤ length l)
+  read-next = right .1

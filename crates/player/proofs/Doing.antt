@@ -1,0 +1,206 @@
+-- What an accepted event makes of the bank, by the turn that the code takes for it.
+use mathlib.Core.Path.{_≡_, refl, sym, ap, _∙_, subst}
+use mathlib.Core.Bool.{Bool, true, false, cond}
+use mathlib.Core.List.{List, []}
+use Prim.Native.Nat.{ℕ, zero, suc, _*_, _/_, _<_, _≤_, min}
+use native.Mathlib.Omega.{arith}
+use lib.Ieee.{Float}
+use Rattle.bank.specs.declared.banks.EnvelopeBank.{EnvelopeBank}
+use Rattle.bank.specs.Calls as Calls
+use Rattle.bank.specs.Calls.{Opening, opening, Call, Known, strideOf, ifAccepted, openingRefusal, opened, refusal}
+use Rattle.bank.specs.Banks.{voice, size, known, arrange, put, onAll, withTiming, frames, rows, idle, new, moved, answer}
+use Rattle.bank.specs.Replies.{Reply, reply}
+use Rattle.bank.proofs.Lanes.{Sized, arrange-sized, idle-sized}
+use Rattle.histories.proofs.Kept.{named}
+use Rattle.histories.proofs.Blocks.{whole, block-frames}
+use Rattle.events.specs.declared.Event.{Event}
+use Rattle.events.proofs.Records as Records
+use Rattle.checking.specs.Deeds.{Deed, opens, calls, deed, ownRefusal, knownOf, knownAfter, framesOf}
+use Rattle.checking.proofs.Judging.{if-accepted}
+use Rattle.player.specs.declared.turns.Turn.{Turn}
+use Rattle.player.specs.Parts.{turnOf, changed}
+use Rattle.player.specs.Playing.{after, levels, handed}
+
+-- ---- turns
+
+abbrev pub draws : Turn → Bool
+draws (Turn.Open n t p) = false
+draws (Turn.SetAllParams p) = false
+draws (Turn.SetTiming t) = false
+draws (Turn.Change v from) = false
+draws (Turn.Frames n) = true
+
+-- The frames that it owes.
+abbrev pub owing : Turn → ℕ
+owing (Turn.Open n t p) = 0
+owing (Turn.SetAllParams p) = 0
+owing (Turn.SetTiming t) = 0
+owing (Turn.Change v from) = 0
+owing (Turn.Frames n) = n
+
+-- The lanes that it reads and writes are there.
+abbrev pub InLanes : Turn → Type 0
+InLanes (Turn.Open n t p) = Unit {0}
+InLanes (Turn.SetAllParams p) = Unit {0}
+InLanes (Turn.SetTiming t) = Unit {0}
+InLanes (Turn.Change v from) = (v < 64) × (from < 64)
+InLanes (Turn.Frames n) = Unit {0}
+
+-- The bank after it. Frames are drawn later.
+abbrev pub turned : EnvelopeBank → Event → Turn → EnvelopeBank
+turned b e (Turn.Open n t p) = new (opening n p t) .bank
+turned b e (Turn.SetAllParams p) = answer b (Call.setAllParams p) .bank
+turned b e (Turn.SetTiming t) = answer b (Call.setTiming t) .bank
+turned b e (Turn.Change v from) = put v (changed (b .timing) e (voice b from)) b
+turned b e (Turn.Frames n) = b
+
+-- ---- accepted events
+
+-- The bank after an accepted call.
+accepted : (b : EnvelopeBank) (c : Call) → refusal (known b) c ≡ 0 → answer b c .bank ≡ moved b c
+unfolding answer
+accepted b c z = if-accepted (refusal (known b) c) (moved b c) b z
+
+-- A call that draws nothing replies no levels.
+silent : (n m : ℕ) → levels (ifAccepted n Reply.done (Reply.refused m)) ≡ []
+unfolding levels
+silent zero m = refl
+silent (suc n) m = refl
+
+differ : true ≡ false → ⊥
+differ h =
+    let e : _≡_ {A = ℕ} 1 0 = ap (λ (t : Bool). cond {A = ℕ} t 1 0) h in
+    absurd (omega (arith, e))
+
+module _ (b : EnvelopeBank) where
+  abbrev pub own : Event → ℕ
+  own e = ownRefusal (known b) (deed (known b) e)
+
+  below : (v later : ℕ) → Calls.named (known b) v later ≡ 0 → (v < 64) × (later ≡ 0)
+  below v later z =
+      let h = named (known b) v later z in
+      (omega (arith, h .0), h .1)
+
+  pub in-lanes : (e : Event) → own e ≡ 0 → InLanes (turnOf e)
+  unfolding turnOf deed ownRefusal refusal
+  in-lanes (Event.Open n t p) z = tt
+  in-lanes (Event.SetParams v p) z = let h = below v _ z in (h .0, h .0)
+  in-lanes (Event.SetAllParams p) z = tt
+  in-lanes (Event.SetTiming t) z = tt
+  in-lanes (Event.Trigger v x) z = let h = below v _ z in (h .0, h .0)
+  in-lanes (Event.Release v) z = let h = below v _ z in (h .0, h .0)
+  in-lanes (Event.Reset v) z = let h = below v _ z in (h .0, h .0)
+  in-lanes (Event.Join v from) z = let h = below v _ z in (h .0, below from _ (h .1) .0)
+  in-lanes (Event.Frames n) z = tt
+
+  -- What the player's definition says of it.
+  pub turned-after : (e : Event) → own e ≡ 0 → draws (turnOf e) ≡ false → after b (deed (known b) e) ≡ turned b e (turnOf e)
+  unfolding turnOf deed ownRefusal after moved changed
+  turned-after (Event.Open n t p) z q = refl
+  turned-after (Event.SetParams v p) z q = accepted b (Call.setParams v p) z
+  turned-after (Event.SetAllParams p) z q = refl
+  turned-after (Event.SetTiming t) z q = refl
+  turned-after (Event.Trigger v x) z q = accepted b (Call.trigger v x) z
+  turned-after (Event.Release v) z q = accepted b (Call.release v) z
+  turned-after (Event.Reset v) z q = accepted b (Call.reset v) z
+  turned-after (Event.Join v from) z q = accepted b (Call.join v from) z
+  turned-after (Event.Frames n) z q = absurd (differ q)
+
+  pub quiet : (e : Event) → draws (turnOf e) ≡ false → handed b (deed (known b) e) ≡ []
+  unfolding turnOf deed handed reply
+  quiet (Event.Open n t p) q = refl
+  quiet (Event.SetParams v p) q = silent (refusal (known b) (Call.setParams v p)) _
+  quiet (Event.SetAllParams p) q = silent (refusal (known b) (Call.setAllParams p)) _
+  quiet (Event.SetTiming t) q = silent (refusal (known b) (Call.setTiming t)) _
+  quiet (Event.Trigger v x) q = silent (refusal (known b) (Call.trigger v x)) _
+  quiet (Event.Release v) q = silent (refusal (known b) (Call.release v)) _
+  quiet (Event.Reset v) q = silent (refusal (known b) (Call.reset v)) _
+  quiet (Event.Join v from) q = silent (refusal (known b) (Call.join v from)) _
+  quiet (Event.Frames n) q = absurd (differ q)
+
+  pub asks-none : (e : Event) → draws (turnOf e) ≡ false → framesOf e ≡ 0
+  unfolding turnOf framesOf
+  asks-none (Event.Open n t p) q = refl
+  asks-none (Event.SetParams v p) q = refl
+  asks-none (Event.SetAllParams p) q = refl
+  asks-none (Event.SetTiming t) q = refl
+  asks-none (Event.Trigger v x) q = refl
+  asks-none (Event.Release v) q = refl
+  asks-none (Event.Reset v) q = refl
+  asks-none (Event.Join v from) q = refl
+  asks-none (Event.Frames n) q = absurd (differ q)
+
+  -- ---- its voices, and its arrays
+
+  twice : min (b .voices) 64 ≡ min (min (b .voices) 64) 64
+  twice = omega arith
+
+  opened-voices : (o : Opening) → openingRefusal o ≡ 0 → size (new o .bank) ≡ min (o .voices) 64
+  unfolding new opened idle
+  opened-voices o z = ap (λ (x : Opening). min (x .voices) 64) (if-accepted (openingRefusal o) o _ z)
+
+  pub turned-voices : (e : Event) → own e ≡ 0 → draws (turnOf e) ≡ false → size (turned b e (turnOf e)) ≡ min (knownAfter (known b) (deed (known b) e) .voices) 64
+  unfolding turnOf deed ownRefusal knownAfter moved put onAll arrange
+  turned-voices (Event.Open n t p) z q = opened-voices (opening n p t) z
+  turned-voices (Event.SetParams v p) z q = twice
+  turned-voices (Event.SetAllParams p) z q = ap size (accepted b (Call.setAllParams p) z) ∙ twice
+  turned-voices (Event.SetTiming t) z q = ap size (accepted b (Call.setTiming t) z) ∙ twice
+  turned-voices (Event.Trigger v x) z q = twice
+  turned-voices (Event.Release v) z q = twice
+  turned-voices (Event.Reset v) z q = twice
+  turned-voices (Event.Join v from) z q = twice
+  turned-voices (Event.Frames n) z q = twice
+
+  pub turned-sized : Sized b → (e : Event) → own e ≡ 0 → Sized (turned b e (turnOf e))
+  unfolding turnOf deed ownRefusal moved put onAll new
+  turned-sized S (Event.Open n t p) z = idle-sized _ _ _
+  turned-sized S (Event.SetParams v p) z = arrange-sized _ b
+  turned-sized S (Event.SetAllParams p) z = subst Sized (sym (accepted b (Call.setAllParams p) z)) (arrange-sized _ b)
+  turned-sized S (Event.SetTiming t) z = subst Sized (sym (accepted b (Call.setTiming t) z)) (arrange-sized _ (withTiming t b))
+  turned-sized S (Event.Trigger v x) z = arrange-sized _ b
+  turned-sized S (Event.Release v) z = arrange-sized _ b
+  turned-sized S (Event.Reset v) z = arrange-sized _ b
+  turned-sized S (Event.Join v from) z = arrange-sized _ b
+  turned-sized S (Event.Frames n) z = S
+
+  -- Only an open changes their number.
+  pub same-voices : (e : Event) → Records.opens e ≡ false → knownAfter (known b) (deed (known b) e) .voices ≡ size b
+  unfolding deed knownAfter
+  same-voices (Event.Open n t p) q = absurd (differ q)
+  same-voices (Event.SetParams v p) q = refl
+  same-voices (Event.SetAllParams p) q = refl
+  same-voices (Event.SetTiming t) q = refl
+  same-voices (Event.Trigger v x) q = refl
+  same-voices (Event.Release v) q = refl
+  same-voices (Event.Reset v) q = refl
+  same-voices (Event.Join v from) q = refl
+  same-voices (Event.Frames n) q = refl
+
+  -- ---- frames
+
+  -- They are handed out as rows, and the bank is as many frames on.
+  frames-handed : (n : ℕ) → handed b (deed (known b) (Event.Frames n)) ≡ rows n b
+  unfolding deed handed reply levels
+  frames-handed n = rw (whole (known b) n .0, whole (known b) n .1)
+
+  frames-after : (n : ℕ) → after b (deed (known b) (Event.Frames n)) ≡ frames n b
+  unfolding deed after
+  frames-after n = block-frames b (size b) n refl
+
+  pub record Drawn (e : Event) : Type 0 where
+    pub asks : owing (turnOf e) ≡ framesOf e
+    pub rows : handed b (deed (known b) e) ≡ rows (framesOf e) b
+    pub bank : after b (deed (known b) e) ≡ frames (framesOf e) b
+    pub voices : knownAfter (known b) (deed (known b) e) .voices ≡ size b
+
+  pub drawn : (e : Event) → draws (turnOf e) ≡ true → Drawn e
+  unfolding turnOf framesOf knownAfter deed
+  drawn (Event.Open n t p) q = absurd (differ (sym q))
+  drawn (Event.SetParams v p) q = absurd (differ (sym q))
+  drawn (Event.SetAllParams p) q = absurd (differ (sym q))
+  drawn (Event.SetTiming t) q = absurd (differ (sym q))
+  drawn (Event.Trigger v x) q = absurd (differ (sym q))
+  drawn (Event.Release v) q = absurd (differ (sym q))
+  drawn (Event.Reset v) q = absurd (differ (sym q))
+  drawn (Event.Join v from) q = absurd (differ (sym q))
+  drawn (Event.Frames n) q = record { asks = refl; rows = frames-handed n; bank = frames-after n; voices = refl }

@@ -1,0 +1,5 @@
+-- Laws of playing.
+pub mod Bytes
+pub mod Signs
+pub mod Doing
+pub mod Progress
