@@ -17,25 +17,27 @@ use Rattle.checking.specs.declared.Checked.{Checked}
 use Rattle.checking.specs.Checks.{start, refusedAt, passed, judged, met, checkedFrom, checked}
 use Rattle.checking.proofs.Judging.{if-refused, if-accepted, own, judged-passed, passed-few}
 
--- What the code needs of how far it came: at most 64 voices, and no more frames than levels.
+-- What holds of how far it came: at most 64 voices, and an output that holds the frames.
 pub record Held (room : ℕ) (c : Checked) : Type 0 where
   pub voices : c .voices ≤ 64
-  pub frames : c .frames ≤ room
+  pub levels : c .frames * strideOf (c .voices) ≤ room
 
 pub held-start : (room : ℕ) → Held room start
-held-start room = record { voices = omega arith; frames = omega arith }
+held-start room = record { voices = omega arith; levels = omega arith }
+
+pub held-frames : (room : ℕ) (c : Checked) → Held room c → c .frames ≤ room
+held-frames room c H = le-trans (le-mul-of-pos-right (c .frames) (stride-holds (c .voices) .1)) (H .levels)
 
 module _ (room : ℕ) (c : Checked) (e : Event) (next : ℕ) (H : Held room c) where
   abbrev p : Checked
   p = passed c e next
 
   kept : (n : ℕ) → Held room (refusedAt n c)
-  kept n = record { voices = H .voices; frames = H .frames }
+  kept n = record { voices = H .voices; levels = H .levels }
 
   room-left : p .voices ≤ 64 → (t : Bool) → ltb room (p .frames * strideOf (p .voices)) ≡ t → Held room (cond t (refusedAt 11 c) p)
   room-left few true h = kept 11
-  room-left few false h =
-      record { voices = few; frames = le-trans (le-mul-of-pos-right (p .frames) (stride-holds (p .voices) .1)) (ltb-false room _ h) }
+  room-left few false h = record { voices = few; levels = ltb-false room _ h }
 
   judged-held : Held room (judged room c e next)
   unfolding judged
@@ -48,7 +50,7 @@ module _ (room : ℕ) (c : Checked) (e : Event) (next : ℕ) (H : Held room c) w
 pub met-held : (room : ℕ) (c : Checked) (r : Reading) → Held room c → Held room (met room c r)
 unfolding met
 met-held room c (Reading.Record e next) H = judged-held room c e next H
-met-held room c (Reading.Refused n) H = record { voices = H .voices; frames = H .frames }
+met-held room c (Reading.Refused n) H = record { voices = H .voices; levels = H .levels }
 
 -- ---- the loop
 
@@ -122,11 +124,10 @@ from-held (suc n) l room c H =
     go zero false K = H
     go (suc k) t K = H
 
--- No more frames than the output has room for.
 pub checked-held : (l : List ℕ) (bytes : ℕ) → Held (bytes / 4) (checked l bytes)
 unfolding checked
 checked-held l bytes = go (eqb (length l) 0)
   where
     go : (t : Bool) → Held (bytes / 4) (cond t (refusedAt 9 start) (checkedFrom (length l) l (bytes / 4) start))
-    go true = record { voices = omega arith; frames = omega arith }
+    go true = record { voices = omega arith; levels = omega arith }
     go false = from-held (length l) l (bytes / 4) start (held-start (bytes / 4))

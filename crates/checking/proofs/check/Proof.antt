@@ -5,7 +5,7 @@ use borrow.Author.Needs.{needs}
 use lib.ListN.{length}
 use Rattle.checking.specs.declared.Checked.{Checked}
 use Rattle.checking.specs.Checks.{start, checkedFrom}
-use Rattle.checking.proofs.Passing.{Held, held-start, met-held, stopped, ended, one-more, none, some}
+use Rattle.checking.proofs.Passing.{Held, held-start, held-frames, met-held, stopped, ended, one-more, none, some}
 use Rattle.checking.proofs.check.Statement.{statement}
 use Rattle.checking.proofs.check.Tie as tie
 use Rattle.checking.proofs.record.Reads as record-reads
@@ -42,7 +42,7 @@ record-requires : tie.Need-record-requires Inv-loop μ-loop
 record-requires c κs =
     let c₅ = c .before .before .before .before .before in
     let H = c₅ .loop .inv .0 in
-    (H .voices, H .frames, omega (arith, c₅ .before .before .before .fits))
+    (H .voices, held-frames _ (c₅ .loop .c) H, omega (arith, c₅ .before .before .before .fits))
 
 sub-turns : tie.Need-sub-turns Inv-loop μ-loop
 sub-turns c = search needs

@@ -1,5 +1,5 @@
 use mathlib.Core.Path.{_≡_, sym, ap, _∙_, subst}
-use Prim.Native.Nat.{_^_, _<_}
+use Prim.Native.Nat.{_/_, _^_, _<_}
 use native.Mathlib.Omega.{arith}
 use lib.IntN.{pos, negℤ}
 use lib.ListN.{length}
@@ -10,7 +10,7 @@ use mir.ValLaws.{toZ-pos, toZ-ofZ}
 use Rattle.bank.specs.Calls.{ifAccepted}
 use Rattle.checking.specs.declared.Checked.{Checked}
 use Rattle.checking.proofs.Judging.{if-refused, if-accepted}
-use Rattle.checking.proofs.Passing.{checked-held}
+use Rattle.checking.proofs.Passing.{held-frames, checked-held}
 use Rattle.player.proofs.Signs.{negative-fits}
 use Rattle.player.specs.Playing.{events, unopened, heard, bytes, result, output}
 use borrow.Author.Needs.{needs}
@@ -21,9 +21,10 @@ use Rattle.player.proofs.worfelli_play.Tie as tie
 small : (c : tie.After-check) → c .check .result .frames < 2 ^ 63
 small c =
     let a = c .before .before .before .args in
-    let H = checked-held (a .list .now) (length (a .out .now)) in
+    let l = length (a .out .now) in
+    let H = held-frames (l / 4) _ (checked-held (a .list .now) l) in
     let e = ap (λ (x : Checked). x .frames) (c .check .ensures) in
-    omega (arith, e, H .frames, c .before .before .before .good .1 .0)
+    omega (arith, e, H, c .before .before .before .good .1 .0)
 
 check-requires : tie.Need-check-requires
 check-requires c κs = search needs
