@@ -1,8 +1,8 @@
 //! Prepares the two sides of the comparison: derives the Rust's envelope from
-//! its sources, and links the static library made from the Rattle.
+//! its sources, and links the static libraries made from the Rattle.
 //!
 //! `WORFELLI_RUST` names the folder of the Rust's sources and `WORFELLI_LIB`
-//! the folder of the library; a relative name is read from this package's
+//! the folder of the libraries; a relative name is read from this package's
 //! folder. Whatever stands in the way is said in one line.
 
 use std::env;
@@ -13,7 +13,8 @@ mod derive;
 #[path = "build/table.rs"]
 mod table;
 
-const LIBRARY: &str = "libexports.a";
+/// The libraries: `lib` and `.a` around each name.
+const LIBRARIES: [&str; 2] = ["exports", "player"];
 
 fn main() {
     // An error told to cargo stops the build by itself; a failing exit status
@@ -42,17 +43,24 @@ fn folder(variable: &str, default: &str) -> Result<PathBuf, String> {
     Ok(Path::new(&package).join(named))
 }
 
-/// Links the library in `folder`.
+/// Links the libraries in `folder`.
 fn link(folder: &Path) -> Result<(), String> {
-    let file = folder.join(LIBRARY);
-    println!("cargo::rerun-if-changed={}", file.display());
-    if !file.is_file() {
+    let file = |name: &str| folder.join(format!("lib{name}.a"));
+    for name in LIBRARIES {
+        println!("cargo::rerun-if-changed={}", file(name).display());
+    }
+    let missing = LIBRARIES.into_iter().filter(|name| !file(name).is_file());
+    let missing: Vec<String> = missing.map(|name| format!("lib{name}.a")).collect();
+    if !missing.is_empty() {
         return Err(format!(
-            "no {LIBRARY} in {}: build it first, or name its folder in WORFELLI_LIB",
+            "no {} in {}: build it first (rt staticlib), or name its folder in WORFELLI_LIB",
+            missing.join(" and no "),
             folder.display()
         ));
     }
     println!("cargo::rustc-link-search=native={}", folder.display());
-    println!("cargo::rustc-link-lib=static=exports");
+    for name in LIBRARIES {
+        println!("cargo::rustc-link-lib=static={name}");
+    }
     Ok(())
 }

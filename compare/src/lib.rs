@@ -4,11 +4,12 @@
 //! - [`rust`]: the Rust itself, derived from its sources while building (see
 //!   `build.rs`), with [`stand_ins`] and [`simd`] in place of what varies by
 //!   machine or is not among its sources.
-//! - [`library`]: what the static library made from the Rattle exports.
+//! - [`library`]: what the static libraries made from the Rattle export.
 //! - [`replay`]: the Rattle's program that plays calls on an envelope and on a
 //!   bank, asked; [`stored`]: what it is run on where there is no Rust.
 //! - [`calls`], with the bytes of both directions, and [`comparison`]: the
-//!   single envelope's calls and answers; [`banks`]: the same of the bank.
+//!   single envelope's calls and answers; [`banks`]: the same of the bank;
+//!   [`players`]: event lists and the player of them.
 //! - [`reference`](mod@reference): the Rust's envelope, with what document 01 adds to it.
 //! - [`random`], [`floats`], [`times`] and [`settings`]: the inputs; [`fixed`]
 //!   and [`random_lists`]: lists of calls, with the Rust's answers in [`lists`].
@@ -16,8 +17,8 @@
 //!   what it reached, and what it answers.
 //!
 //! `cargo run --release --bin numbers` compares the number helpers, `--bin
-//! envelopes` the single envelope, `--bin banks` the bank, and `--bin bench`
-//! measures the helpers.
+//! envelopes` the single envelope, `--bin banks` the bank, `--bin players` the
+//! player, and `--bin bench` measures all of them.
 
 pub mod arguments;
 pub mod banks;
@@ -28,6 +29,7 @@ pub mod fixed;
 pub mod floats;
 pub mod library;
 pub mod lists;
+pub mod players;
 pub mod random;
 pub mod random_lists;
 pub mod reference;

@@ -1,4 +1,4 @@
-//! What the static library made from the Rattle exports, as safe functions,
+//! What the static libraries made from the Rattle export, as safe functions,
 //! and a list of the exports by group, so that a comparison can tell which of
 //! them it left out. A linker sees names and no types, so `tests/exports.rs`
 //! holds the lists against the Rattle's own text.
@@ -90,6 +90,11 @@ mod lent {
             out: *mut f32,
             len: usize,
         ) -> u32;
+
+        pub fn worfelli_play(list: *const u8, list_len: usize, out: *mut u8, out_len: usize)
+        -> i64;
+
+        pub fn worfelli_refused_at(list: *const u8, list_len: usize, out_len: usize) -> u64;
     }
 }
 
@@ -180,4 +185,43 @@ pub fn take(take: Take, out: &mut [f32]) -> u32 {
             out.len(),
         )
     }
+}
+
+/// The exports of the player's library.
+pub const PLAYER: &[Export] = &[
+    Export {
+        name: "play",
+        symbol: "worfelli_play",
+        arguments: &["&[u8]", "&mut [u8]"],
+        result: "i64",
+    },
+    Export {
+        name: "refused_at",
+        symbol: "worfelli_refused_at",
+        arguments: &["&[u8]", "usize"],
+        result: "u64",
+    },
+];
+
+/// Plays an event list into `out`, four bytes a level. Answers the frames that
+/// were written, or minus the refusal's number.
+pub fn play(list: &[u8], out: &mut [u8]) -> i64 {
+    // SAFETY: as for `note`; of the list it only reads.
+    unsafe { lent::worfelli_play(list.as_ptr(), list.len(), out.as_mut_ptr(), out.len()) }
+}
+
+/// The first byte of the record that is refused where the output has so many
+/// bytes, or the list's length.
+#[must_use]
+pub fn refused_at(list: &[u8], out_len: usize) -> u64 {
+    // SAFETY: it reads the list and nothing else.
+    unsafe { lent::worfelli_refused_at(list.as_ptr(), list.len(), out_len) }
+}
+
+/// The two calls of the player as C has them, for who calls them on a stack of
+/// their own.
+#[must_use]
+pub fn player_addresses() -> [usize; 2] {
+    let (play, refused_at) = (lent::worfelli_play, lent::worfelli_refused_at);
+    [play as *const () as usize, refused_at as *const () as usize]
 }

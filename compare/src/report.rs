@@ -29,6 +29,22 @@ impl Bits for bool {
     }
 }
 
+impl Bits for u8 {
+    const DIGITS: usize = 2;
+
+    fn given(self) -> u64 {
+        self.into()
+    }
+}
+
+impl Bits for i64 {
+    const DIGITS: usize = 16;
+
+    fn given(self) -> u64 {
+        self as u64
+    }
+}
+
 impl Bits for u32 {
     const DIGITS: usize = 8;
 
@@ -125,19 +141,22 @@ impl Tally {
     pub fn check<T: Bits>(&mut self, inputs: impl Inputs, ours: T, rust: T) {
         self.cases += 1;
         if ours.compared() != rust.compared() {
-            self.differ(
-                &inputs.shown(),
-                &hex::<T>(ours.compared()),
-                &hex::<T>(rust.compared()),
-            );
+            self.differ(inputs, ours, rust);
         }
     }
 
+    /// So many cases at once that were found to be the same.
+    pub fn same(&mut self, cases: usize) {
+        self.cases += cases as u64;
+    }
+
     #[cold]
-    fn differ(&mut self, inputs: &str, ours: &str, rust: &str) {
+    fn differ<T: Bits>(&mut self, inputs: impl Inputs, ours: T, rust: T) {
         self.differences += 1;
         if self.differences <= SHOWN {
-            println!("{}({inputs}): ours {ours}, Rust {rust}", self.name);
+            let (ours, rust) = (hex::<T>(ours.compared()), hex::<T>(rust.compared()));
+            let (name, inputs) = (self.name, inputs.shown());
+            println!("{name}({inputs}): ours {ours}, Rust {rust}");
         }
     }
 

@@ -1,13 +1,23 @@
-//! The declarations of the library's exports are those of the Rattle's source:
+//! The declarations of the libraries' exports are those of the Rattle's source:
 //! none is missing, none is too many, and their types agree.
 
-use compare::library::{Export, LENT, NUMBERS};
+use std::fs;
+use std::path::Path;
 
-/// The sources of the exports.
-const SOURCES: [&str; 2] = [
-    include_str!("../../crates/exports/src/lib.rt"),
-    include_str!("../../crates/exports/src/banks.rt"),
-];
+use compare::library::{Export, LENT, NUMBERS, PLAYER};
+
+/// All source files of a crate.
+fn sources(of: &str) -> Vec<String> {
+    let crates = Path::new(env!("CARGO_MANIFEST_DIR")).join("../crates");
+    let folder = crates.join(of).join("src");
+    let Ok(entries) = fs::read_dir(&folder) else {
+        panic!("{}: no such folder", folder.display());
+    };
+    let files = entries.flatten().map(|entry| entry.path());
+    let files = files.filter(|file| file.extension().is_some_and(|of| of == "rt"));
+    let text = |file| fs::read_to_string(file).expect("a text");
+    files.map(text).collect()
+}
 
 /// A declaration as one line, `name(type, type) -> type`.
 fn shown(name: &str, arguments: &[&str], result: &str) -> String {
@@ -17,7 +27,7 @@ fn shown(name: &str, arguments: &[&str], result: &str) -> String {
 /// The exported functions of `source`.
 fn exported(source: &str) -> Vec<String> {
     source
-        .split("pub extern \"C\" fn ")
+        .split("#[no_mangle]\npub extern \"C\" fn ")
         .skip(1)
         .map(|rest| {
             let (name, rest) = rest.split_once('(').expect("a list of parameters");
@@ -34,15 +44,25 @@ fn exported(source: &str) -> Vec<String> {
         .collect()
 }
 
-#[test]
-fn declared_as_exported() {
-    let mut declared: Vec<String> = NUMBERS
-        .iter()
-        .chain(LENT)
-        .map(|export: &Export| shown(export.symbol, export.arguments, export.result))
+/// What is declared of a crate has to be what it exports.
+fn declared_as_exported(of: &str, declared: &[&[Export]]) {
+    let declared = declared.iter().flat_map(|group| group.iter());
+    let mut declared: Vec<String> = declared
+        .map(|export| shown(export.symbol, export.arguments, export.result))
         .collect();
-    let mut exported: Vec<String> = SOURCES.into_iter().flat_map(exported).collect();
+    let sources = sources(of);
+    let mut exported: Vec<String> = sources.iter().flat_map(|text| exported(text)).collect();
     declared.sort();
     exported.sort();
     assert_eq!(declared, exported);
+}
+
+#[test]
+fn exports() {
+    declared_as_exported("exports", &[NUMBERS, LENT]);
+}
+
+#[test]
+fn player() {
+    declared_as_exported("player", &[PLAYER]);
 }

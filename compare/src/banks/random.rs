@@ -7,7 +7,7 @@ use crate::banks::calls::{Call, LONGEST};
 use crate::banks::lists::{Draft, List};
 use crate::random::Random;
 use crate::random_lists::{changed_settings, changed_timing, exceed, fresh};
-use crate::rust::envelope::{Envelope, EnvelopeParams, Timing, Trigger};
+use crate::rust::envelope::{Envelope, EnvelopeBank, EnvelopeParams, Timing, Trigger};
 use crate::settings::{self, Style};
 
 /// The most calls of a list beside its chord and the readings.
@@ -52,12 +52,12 @@ impl Iterator for Lists {
 
 /// What a list is made of.
 #[derive(Clone, Copy)]
-struct Plan {
-    style: Style,
+pub struct Plan {
+    pub style: Style,
     /// The levels after which its blocks stay short.
-    levels: usize,
+    pub levels: usize,
     /// One call in so many is damaged.
-    damaged: u64,
+    pub damaged: u64,
 }
 
 fn plan(random: &mut Random) -> Plan {
@@ -85,17 +85,18 @@ fn list(random: &mut Random, name: String) -> List {
         chord(random, plan, &mut draft);
     }
     for _ in 0..random.below(CALLS) {
-        let call = call(random, plan, &draft);
+        let call = call(random, plan, draft.bank(), draft.levels());
         draft.ask(call, SHORT_LEAD);
         if random.coin() {
-            let voice = voice(random, plan, &draft);
+            let voice = voice(random, plan, draft.bank());
             draft.ask(Call::Read(voice), SHORT_LEAD);
         }
     }
     draft.close()
 }
 
-fn opening(random: &mut Random, plan: Plan) -> Call {
+/// The opening of a list.
+pub fn opening(random: &mut Random, plan: Plan) -> Call {
     let (settings, timing) = fresh(random, plan.style);
     let voices = match random.below(16) {
         0 if random.below(4) == 0 => 65,
@@ -124,8 +125,8 @@ fn chord(random: &mut Random, plan: Plan, draft: &mut Draft) {
 
 /// A voice's number: of the first few, the last or any, and of a damaged call
 /// mostly none that there is.
-fn voice(random: &mut Random, plan: Plan, draft: &Draft) -> u64 {
-    let voices = draft.bank().voices() as u64;
+pub fn voice(random: &mut Random, plan: Plan, bank: &EnvelopeBank) -> u64 {
+    let voices = bank.voices() as u64;
     if voices == 0 || random.below(plan.damaged) == 0 {
         return no_voice(random, voices);
     }
@@ -151,13 +152,17 @@ fn no_voice(random: &mut Random, voices: u64) -> u64 {
     }
 }
 
-/// The next call on the bank.
-fn call(random: &mut Random, plan: Plan, draft: &Draft) -> Call {
-    let (bank, style) = (draft.bank(), plan.style);
+/// The next call on the bank, which has handed out so many levels.
+pub fn call(random: &mut Random, plan: Plan, bank: &EnvelopeBank, levels: usize) -> Call {
+    let style = plan.style;
+    let room = plan.levels.saturating_sub(levels) / bank.stride();
+    let process = |random: &mut Random, envelope: Option<&Envelope>| {
+        process(random, plan, bank, envelope, room as u64)
+    };
     if bank.voices() == 0 && random.coin() {
-        return process(random, plan, draft, None);
+        return process(random, None);
     }
-    let named = voice(random, plan, draft);
+    let named = voice(random, plan, bank);
     let envelope = (named < bank.voices() as u64).then(|| bank.voice(named as usize));
     let envelope = envelope.as_ref();
     if envelope.is_some_and(Envelope::is_idle) && random.coin() {
@@ -165,10 +170,10 @@ fn call(random: &mut Random, plan: Plan, draft: &Draft) -> Call {
     }
     // Long stages need their frames before something else ends them.
     if matches!(style, Style::Segments | Style::Long) && random.coin() {
-        return process(random, plan, draft, envelope);
+        return process(random, envelope);
     }
     match random.below(100) {
-        0..34 => process(random, plan, draft, envelope),
+        0..34 => process(random, envelope),
         34..47 => Call::Settings(named, settings(random, plan, envelope)),
         47..53 => Call::SettingsForAll(settings(random, plan, envelope)),
         53..60 => Call::Timing(timing(random, plan, envelope)),
@@ -176,7 +181,7 @@ fn call(random: &mut Random, plan: Plan, draft: &Draft) -> Call {
         78..85 => Call::Release(named),
         85..88 => Call::Reset(named),
         88.. if random.below(10) == 0 => Call::Join(named, named),
-        _ => Call::Join(named, voice(random, plan, draft)),
+        _ => Call::Join(named, voice(random, plan, bank)),
     }
 }
 
@@ -198,10 +203,16 @@ fn timing(random: &mut Random, plan: Plan, envelope: Option<&Envelope>) -> Timin
     }
 }
 
-/// A block, of a damaged call mostly not of whole frames.
-fn process(random: &mut Random, plan: Plan, draft: &Draft, envelope: Option<&Envelope>) -> Call {
-    let stride = draft.bank().stride() as u64;
-    let room = plan.levels.saturating_sub(draft.levels()) as u64 / stride;
+/// A block, of a damaged call mostly not of whole frames, with room for so
+/// many of them.
+fn process(
+    random: &mut Random,
+    plan: Plan,
+    bank: &EnvelopeBank,
+    envelope: Option<&Envelope>,
+    room: u64,
+) -> Call {
+    let stride = bank.stride() as u64;
     let whole = frames(random, plan.style, envelope, room) * stride;
     let levels = if random.below(plan.damaged) == 0 {
         match random.below(4) {

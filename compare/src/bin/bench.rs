@@ -1,348 +1,84 @@
-//! Measures the number helpers, notes of the single envelope, and blocks and
-//! calls of the bank beside their Rust counterparts, and prints nanoseconds as
-//! Markdown tables. It asserts nothing about time.
-//!
-//! Inputs and results go through `black_box`, so that no call is computed
-//! ahead, shared or dropped. Ours is necessarily a call into another library,
-//! so each Rust counterpart is a function that is never inlined; otherwise
-//! the table would measure the cost of a call and not that of the helper.
-//!
-//! Each helper is measured twice: with calls that the processor may overlap,
-//! and with each call ended before the next begins, as planning meets them.
+//! Measures the number helpers, notes of the single envelope, blocks and calls
+//! of the bank, and event lists of the player beside their Rust counterparts,
+//! and prints nanoseconds as Markdown tables. It asserts nothing about time.
 
-use std::arch::x86_64::_mm_lfence;
-use std::hint::black_box;
+#[path = "../bench/banks.rs"]
+mod banks;
+#[path = "../bench/helpers.rs"]
+mod helpers;
+#[path = "../bench/notes.rs"]
+mod notes;
+#[path = "../bench/players.rs"]
+mod players;
+#[path = "../bench/stacks.rs"]
+mod stacks;
+
 use std::process::ExitCode;
 use std::time::Instant;
 
 use compare::arguments::BAD_ARGUMENTS;
-use compare::library::{self, Kind, Take};
-use compare::random::Random;
-use compare::rust::envelope::{Envelope, EnvelopeParams, Timing, Trigger};
 use compare::simd;
-use compare::stand_ins;
-use compare::takes::{self, VOICES};
 
 const HELP: &str = "\
-Measures the number helpers, notes, and blocks and calls of a bank of the Rattle
-library and of the Rust on the same inputs, in turns, and prints the median
-nanoseconds per call, per frame of a note, or per voice and frame of a block, as
-Markdown tables. It takes no arguments.";
+Measures the number helpers, notes, blocks and calls of a bank, and event lists
+of the Rattle libraries and of the Rust on the same inputs, in turns, and prints
+the median nanoseconds per call, per frame of a note, per voice and frame of a
+block, and per level, list, record and byte of event lists, as Markdown tables;
+and how far down the stack the player's calls go. A name prints that part alone:
+helpers, notes, banks, players.";
 
 const SEED: u64 = 0x776f_7266_656c_6c69;
-const INPUTS: usize = 4096;
 const REPETITIONS: usize = 101;
 
-/// The Rust's counterparts, each a call.
-mod counterpart {
-    use compare::rust::envelope::{TimeUnit, Timing, unit_of};
-    use compare::stand_ins;
-
-    macro_rules! calls {
-        ($($name:ident($($arg:ident: $type:ty),*) -> $result:ty = $body:expr;)*) => {
-            $(#[inline(never)] pub fn $name($($arg: $type),*) -> $result { $body })*
-        };
-    }
-
-    calls! {
-        unit(value: f32) -> f32 = unit_of(value);
-        max(x: f64, y: f64) -> f64 = x.max(y);
-        clamp(x: f64, low: f64, high: f64) -> f64 = x.clamp(low, high);
-        round_to_u64(x: f64) -> u64 = x.round() as u64;
-        narrow(x: f64) -> f32 = x as f32;
-        widen(x: f32) -> f64 = f64::from(x);
-        of_u64(n: u64) -> f64 = n as f64;
-        f32_to_bits(x: f32) -> u32 = x.to_bits();
-        f32_from_bits(bits: u32) -> f32 = f32::from_bits(bits);
-        f64_to_bits(x: f64) -> u64 = x.to_bits();
-        f64_from_bits(bits: u64) -> f64 = f64::from_bits(bits);
-        exp_m1(z: f64) -> f64 = stand_ins::exp_m1(z);
-        exp(z: f64) -> f64 = stand_ins::exp(z);
-        ln_1p(a: f64) -> f64 = stand_ins::ln_1p(a);
-        powi(r: f64, len: u32) -> f64 = stand_ins::powi(r, len);
-        samples(beats: bool, value: f32, sample_rate: f64, tempo: f64, scale: f64) -> u64 = {
-            let unit = if beats { TimeUnit::Tempo } else { TimeUnit::Milliseconds };
-            Timing { sample_rate, tempo, scale }.samples(value, unit)
-        };
-    }
-}
-
-/// Measures one helper on inputs that hold its arguments, and prints its row.
-macro_rules! row {
-    ($name:ident($arg:ident), $about:literal, $inputs:expr) => {
-        row!(@ $name, $about, $inputs, $arg, ($arg))
-    };
-    ($name:ident($($arg:ident),*), $about:literal, $inputs:expr) => {
-        row!(@ $name, $about, $inputs, ($($arg),*), ($($arg),*))
-    };
-    (@ $name:ident, $about:literal, $inputs:expr, $input:pat, $arguments:tt) => {{
-        let medians = measure($inputs, |$input| library::$name $arguments, |$input| {
-            counterpart::$name $arguments
-        });
-        print_row(stringify!($name), $about, medians);
-    }};
-}
+/// The parts, in the order of printing.
+const PARTS: [(&str, fn()); 4] = [
+    ("helpers", helpers::print),
+    ("notes", notes::print),
+    ("banks", banks::print),
+    ("players", players::print),
+];
 
 fn main() -> ExitCode {
-    match std::env::args().nth(1).as_deref() {
-        None => {}
+    let given = std::env::args().nth(1);
+    let asked = match given.as_deref() {
         Some("--help" | "-h") => {
             println!("{HELP}");
             return ExitCode::SUCCESS;
         }
-        Some(other) => {
+        Some(other) if PARTS.iter().all(|(name, _)| *name != other) => {
             eprintln!("unknown argument {other:?} (--help says what this does)");
             return ExitCode::from(BAD_ARGUMENTS);
         }
+        asked => asked,
+    };
+    for (name, print) in PARTS {
+        // The helpers and notes have no group of lanes to stand still.
+        if name == "banks" || name == "players" {
+            simd::use_still_shortcut();
+        }
+        if asked.is_none_or(|asked| asked == name) {
+            print();
+        }
     }
-    println!(
-        "| Helper | Inputs | Overlapped: ours, ns | Rust, ns | Ratio | Apart: ours, ns | Rust, ns | Ratio |"
-    );
-    println!("|---|---|---:|---:|---:|---:|---:|---:|");
-    let mut random = Random::new(SEED);
-    choices(&mut random);
-    conversions(&mut random);
-    steps(&mut random);
-    notes();
-    simd::use_still_shortcut();
-    blocks();
-    calls();
     ExitCode::SUCCESS
 }
 
-/// Typical inputs, each as `one` draws it.
-fn draw<I>(random: &mut Random, one: impl Fn(&mut Random) -> I) -> Vec<I> {
-    (0..INPUTS).map(|_| one(random)).collect()
-}
-
-fn choices(random: &mut Random) {
-    let controls = draw(random, |r| r.between(-0.1, 1.1) as f32);
-    row!(unit(value), "controls, -0.1 to 1.1", &controls);
-    let tempos = draw(random, |r| (r.between(-1.0, 300.0), 1.0));
-    row!(max(x, y), "tempos, and 1", &tempos);
-    let scales = draw(random, |r| (r.between(0.0, 11.0), 0.1, 10.0));
-    row!(clamp(x, low, high), "scales, to 0.1..10", &scales);
-    let settings = draw(random, |r| {
-        let value = r.between(0.0, 5000.0) as f32;
-        (r.coin(), value, 48_000.0, 120.0, r.between(0.1, 10.0))
-    });
-    row!(
-        samples(beats, value, sample_rate, tempo, scale),
-        "both units, 48 kHz",
-        &settings
-    );
-}
-
-fn conversions(random: &mut Random) {
-    let counts = draw(random, |r| r.between(0.0, 1e6));
-    row!(round_to_u64(x), "counts to a million", &counts);
-    let wholes = draw(random, |r| r.below(1_000_000));
-    row!(of_u64(n), "counts to a million", &wholes);
-    let levels = draw(random, |r| r.between(0.0, 1.0));
-    row!(narrow(x), "levels, 0 to 1", &levels);
-    row!(f64_to_bits(x), "levels, 0 to 1", &levels);
-    let bits: Vec<u64> = levels.iter().map(|x| x.to_bits()).collect();
-    row!(f64_from_bits(bits), "levels, 0 to 1", &bits);
-    let levels: Vec<f32> = levels.iter().map(|&x| x as f32).collect();
-    row!(widen(x), "levels, 0 to 1", &levels);
-    row!(f32_to_bits(x), "levels, 0 to 1", &levels);
-    let bits: Vec<u32> = levels.iter().map(|x| x.to_bits()).collect();
-    row!(f32_from_bits(bits), "levels, 0 to 1", &bits);
-}
-
-fn steps(random: &mut Random) {
-    let bends = draw(random, |r| r.between(-12.0, 12.0));
-    row!(exp_m1(z), "bends, -12 to 12", &bends);
-    row!(exp(z), "bends, -12 to 12", &bends);
-    let moved = draw(random, |r| r.between(-1.0, 10.0));
-    row!(ln_1p(a), "-1 to 10", &moved);
-    let ratios = draw(random, |r| {
-        let bend_per_sample = r.between(-12.0, 12.0) / 48_000.0;
-        (f64::from(stand_ins::exp(bend_per_sample) as f32), 16_384)
-    });
-    row!(powi(r, len), "ratios near 1, length 16384", &ratios);
-}
-
-/// A note's numbers: sample rate, attack, decay, sustain.
-type Note = (f64, f32, f32, f32);
-
-/// A new note with a bent decay of 5 s at 48 kHz: planned, and drawn in one
-/// block. Short blocks are mostly planning, long ones mostly drawing.
-fn notes() {
-    const NOTE: Note = (48_000.0, 0.0, 5000.0, 0.25);
-    println!("\n| Frames of a note | Ours, ns a frame | Rust, ns a frame | Ratio |");
-    println!("|---:|---:|---:|---:|");
-    for frames in [1, 16, 64, 256, 1024, 16_384, 65_536] {
-        let (mut out, mut expected) = (vec![0.0; frames], vec![0.0; frames]);
-        our_note(NOTE, &mut out);
-        rust_note(NOTE, &mut expected);
-        assert_eq!(out, expected, "the levels of a note of {frames} frames");
-        let repeats = (1 << 16) / frames;
-        let (mut ours, mut rust) = (Vec::new(), Vec::new());
-        for _ in 0..REPETITIONS {
-            ours.push(per_frame(repeats, &mut out, our_note, NOTE));
-            rust.push(per_frame(repeats, &mut out, rust_note, NOTE));
-        }
-        let (ours, rust) = (median(ours), median(rust));
-        println!("| {frames} | {ours:.2} | {rust:.2} | {:.2} |", ours / rust);
-    }
-}
-
-fn our_note((rate, attack, decay, sustain): Note, out: &mut [f32]) {
-    library::note(rate, attack, decay, sustain, out);
-}
-
-#[inline(never)]
-fn rust_note((rate, attack, decay, sustain): Note, out: &mut [f32]) {
-    let settings = EnvelopeParams {
-        attack,
-        decay,
-        sustain,
-        ..EnvelopeParams::AMP
-    };
-    let mut envelope = Envelope::new(settings, Timing::new(rate));
-    envelope.trigger(Trigger::New);
-    envelope.process(out);
-}
-
-/// Nanoseconds per frame of `note`, played `repeats` times.
-fn per_frame(repeats: usize, out: &mut [f32], note: fn(Note, &mut [f32]), numbers: Note) -> f64 {
-    let start = Instant::now();
-    for _ in 0..repeats {
-        note(black_box(numbers), out);
-        black_box(&mut *out);
-    }
-    start.elapsed().as_nanos() as f64 / (repeats * out.len()) as f64
-}
-
-/// A bent decay that outlasts every measurement, on all 64 voices.
-const BENT: Take = Take {
-    sample_rate: 48_000.0,
-    attack: 0.0,
-    decay: 600_000.0,
-    sustain: 0.25,
-    kind: Kind::Trigger,
-    calls: VOICES as u32,
-    blocks: 0,
-};
-
-/// Blocks of 64 voices, all in a bent stage or all idle: so many of them that
-/// opening the bank and its first notes take no part in the figures.
-fn blocks() {
-    println!(
-        "\n| 64 voices | Frames of a block | Ours, ns a voice-sample | Rust, ns a voice-sample | Ratio |"
-    );
-    println!("|---|---:|---:|---:|---:|");
-    for (about, calls) in [("bent", BENT.calls), ("idle", 0)] {
-        for frames in [1, 16, 64, 256, 1024] {
-            let blocks = ((1 << 17) / frames).max(2048);
-            let take = Take {
-                calls,
-                blocks,
-                ..BENT
-            };
-            let samples = f64::from(blocks * frames) * VOICES as f64;
-            let (ours, rust) = takes(take, frames as usize, samples);
-            println!(
-                "| {about} | {frames} | {ours:.3} | {rust:.3} | {:.2} |",
-                ours / rust
-            );
-        }
-    }
-}
-
-/// Calls on one voice of 64 after the other.
-fn calls() {
-    const CALLS: u32 = 1 << 14;
-    println!("\n| A call on one of 64 voices | Ours, ns | Rust, ns | Ratio |");
-    println!("|---|---:|---:|---:|");
-    for (about, kind, each) in [
-        ("new note", Kind::Trigger, 1.0),
-        ("new note, then its release, each", Kind::Release, 2.0),
-        ("settings that it has", Kind::Settings, 1.0),
-    ] {
-        let take = Take {
-            kind,
-            calls: CALLS,
-            blocks: 1,
-            ..BENT
-        };
-        let (ours, rust) = takes(take, 1, f64::from(CALLS) * each);
-        println!("| {about} | {ours:.0} | {rust:.0} | {:.2} |", ours / rust);
-    }
-}
-
-/// The median nanoseconds of `take` on both sides, in turns, over `parts`.
-fn takes(take: Take, frames: usize, parts: f64) -> (f64, f64) {
-    let (mut out, mut expected) = (vec![0.0; frames * VOICES], vec![0.0; frames * VOICES]);
-    library::take(take, &mut out);
-    takes::take(take, &mut expected);
-    assert_eq!(out, expected, "the levels of {take:?}");
-    let (mut ours, mut rust) = (Vec::new(), Vec::new());
+/// The median nanoseconds of both sides, measured in turns so that a busy
+/// machine slows both.
+fn in_turns(mut ours: impl FnMut(), mut rust: impl FnMut()) -> (f64, f64) {
+    let (mut ours_times, mut rust_times) = (Vec::new(), Vec::new());
     for _ in 0..REPETITIONS {
         let start = Instant::now();
-        library::take(black_box(take), &mut out);
-        ours.push(start.elapsed().as_nanos() as f64 / parts);
+        ours();
+        ours_times.push(start.elapsed().as_nanos() as f64);
         let start = Instant::now();
-        takes::take(black_box(take), &mut expected);
-        rust.push(start.elapsed().as_nanos() as f64 / parts);
+        rust();
+        rust_times.push(start.elapsed().as_nanos() as f64);
     }
-    (median(ours), median(rust))
-}
-
-/// Whether calls may overlap, or each ends before the next begins.
-#[derive(Clone, Copy)]
-enum Pace {
-    Overlapped,
-    Apart,
-}
-
-/// The median nanoseconds per call of both sides on `inputs` at both paces,
-/// measured in turns so that a busy machine slows both.
-fn measure<I: Copy, O>(
-    inputs: &[I],
-    ours: impl Fn(I) -> O,
-    rust: impl Fn(I) -> O,
-) -> [(f64, f64); 2] {
-    [Pace::Overlapped, Pace::Apart].map(|pace| {
-        let (mut ours_times, mut rust_times) = (Vec::new(), Vec::new());
-        for _ in 0..REPETITIONS {
-            ours_times.push(once(inputs, pace, &ours));
-            rust_times.push(once(inputs, pace, &rust));
-        }
-        (median(ours_times), median(rust_times))
-    })
-}
-
-/// Nanoseconds per call, over all `inputs` once.
-fn once<I: Copy, O>(inputs: &[I], pace: Pace, call: impl Fn(I) -> O) -> f64 {
-    let start = Instant::now();
-    match pace {
-        Pace::Overlapped => {
-            for &input in inputs {
-                black_box(call(black_box(input)));
-            }
-        }
-        Pace::Apart => {
-            for &input in inputs {
-                black_box(call(black_box(input)));
-                // SAFETY: every x86-64 processor has it, and it only waits.
-                unsafe { _mm_lfence() };
-            }
-        }
-    }
-    start.elapsed().as_nanos() as f64 / inputs.len() as f64
+    (median(ours_times), median(rust_times))
 }
 
 fn median(mut times: Vec<f64>) -> f64 {
     times.sort_by(f64::total_cmp);
     times[times.len() / 2]
-}
-
-fn print_row(name: &str, about: &str, medians: [(f64, f64); 2]) {
-    let figures = medians.map(|(ours, rust)| {
-        let ratio = ours / rust;
-        format!("{ours:.2} | {rust:.2} | {ratio:.2}")
-    });
-    println!("| `{name}` | {about} | {} |", figures.join(" | "));
 }
