@@ -5,13 +5,14 @@ use mathlib.Core.List.{List}
 use Prim.Native.Nat.{ℕ, zero, suc, _+_, _*_, _-_, _/_, _<_, _≤_}
 use native.Mathlib.Omega.{arith}
 use native.Mathlib.Nat.{le-trans, le-mul-of-pos-right}
-use borrow.Author.Tests.{lt-ltb, le-ltb, ltb-false, ne-eqb, eq-eqb}
+use borrow.Author.Tests.{lt-ltb, le-ltb, ltb-true, ltb-false, ne-eqb, eq-eqb}
 use lib.Dec.{ltb, eqb}
 use lib.ListN.{length}
 use Rattle.bank.specs.Calls.{strideOf, ifAccepted}
 use Rattle.events.specs.declared.Event.{Event}
 use Rattle.events.specs.declared.Reading.{Reading}
 use Rattle.events.specs.Format as Format
+use Rattle.events.proofs.Records.{read-next, read-refused}
 use Rattle.histories.proofs.Rows.{stride-holds}
 use Rattle.checking.specs.declared.Checked.{Checked}
 use Rattle.checking.specs.Checks.{start, refusedAt, passed, judged, met, checkedFrom, checked}
@@ -131,3 +132,49 @@ checked-held l bytes = go (eqb (length l) 0)
     go : (t : Bool) → Held (bytes / 4) (cond t (refusedAt 9 start) (checkedFrom (length l) l (bytes / 4) start))
     go true = record { voices = omega arith; levels = omega arith }
     go false = from-held (length l) l (bytes / 4) start (held-start (bytes / 4))
+
+-- ---- a list that is accepted was read to its last byte
+
+-- Each record is past the one before it, and a place where none can be read is refused.
+module _ (l : List ℕ) (room : ℕ) (n : ℕ) (c : Checked) (z : checkedFrom (suc n) l room c .refusal ≡ 0) where
+  pub next-check : c .at < length l → checkedFrom (suc n) l room c ≡ checkedFrom n l room (met room c (Format.read l (c .at)))
+  next-check q =
+      if-accepted (c .refusal) _ c (still (suc n) l room c z)
+      ∙ ap (λ (t : Bool). cond t (checkedFrom n l room (met room c (Format.read l (c .at)))) c) (lt-ltb (c .at) (length l) q)
+
+  past : (r : Reading) → Format.read l (c .at) ≡ r → met room c r .refusal ≡ 0 → (c .at < met room c r .at) × (met room c r .at ≤ length l)
+  unfolding met
+  past (Reading.Refused m) e y = absurd (omega (arith, y, read-refused l (c .at) m e))
+  past (Reading.Record v next) e y =
+      let k : judged room c v next .at ≡ next = ap (λ (x : Checked). x .at) (judged-accepted room c v next y .is) in
+      let b = read-next l (c .at) v next e in
+      (omega (arith, k, b), omega (arith, k, b))
+
+to-the-end : (n : ℕ) (l : List ℕ) (room : ℕ) (c : Checked) → length l ≤ c .at + n → c .at ≤ length l → checkedFrom n l room c .refusal ≡ 0
+    → checkedFrom n l room c .at ≡ length l
+to-the-end zero l room c h k z = omega arith
+to-the-end (suc n) l room c h k z = go (λ x. to-the-end n l room x) (ltb (c .at) (length l)) refl
+  where
+    go : ((x : Checked) → length l ≤ x .at + n → x .at ≤ length l → checkedFrom n l room x .refusal ≡ 0 → checkedFrom n l room x .at ≡ length l)
+        → (t : Bool) → ltb (c .at) (length l) ≡ t → checkedFrom (suc n) l room c .at ≡ length l
+    go ih false q =
+        let e = ltb-false (c .at) (length l) q in
+        ap (λ (x : Checked). x .at) (ended l room c (suc n) e) ∙ omega arith
+    go ih true q =
+        let x = met room c (Format.read l (c .at)) in
+        let e = next-check l room n c z (ltb-true (c .at) (length l) q) in
+        let y : checkedFrom n l room x .refusal ≡ 0 = sym (ap (λ (w : Checked). w .refusal) e) ∙ z in
+        let b = past l room n c z (Format.read l (c .at)) refl (still n l room x y) in
+        ap (λ (w : Checked). w .at) e ∙ ih x (omega (arith, h, b .0)) (b .1) y
+
+-- An empty list is refused.
+pub refused-none : (l : List ℕ) (bytes : ℕ) → checked l bytes .refusal ≡ 0 → length l ≡ 0 → ⊥
+refused-none l bytes z n =
+    let e : _≡_ {A = ℕ} 9 0 = ap (λ (c : Checked). c .refusal) (none l bytes n) ∙ z in
+    absurd (omega (arith, e))
+
+pub accepted-whole : (l : List ℕ) (bytes : ℕ) → checked l bytes .refusal ≡ 0 → checked l bytes .at ≡ length l
+accepted-whole l bytes z =
+    let there : length l ≡ 0 → ⊥ = refused-none l bytes z in
+    let e = some l bytes there in
+    sym (ap (λ (c : Checked). c .at) e) ∙ to-the-end (length l) l (bytes / 4) start (omega arith) (omega arith) (ap (λ (c : Checked). c .refusal) e ∙ z)

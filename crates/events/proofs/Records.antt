@@ -1,4 +1,5 @@
--- An accepted record: it is an open where it is the first, and nowhere else, and the next byte is past its head and within the list.
+-- What a reading tells. An accepted record is an open where it is the first, and nowhere else, and the next byte is past its head and within the
+-- list; a refused one has a number from 6 on.
 use mathlib.Core.Path.{_≡_, refl, sym, _∙_}
 use mathlib.Core.Bool.{Bool, true, false, cond, not}
 use mathlib.Core.List.{List}
@@ -22,10 +23,10 @@ opens (Event.Reset voice) = false
 opens (Event.Join voice from) = false
 opens (Event.Frames frames) = false
 
--- A record that a reading accepts is an open if and only if `first`, and the next byte is as P says.
+-- A record that a reading accepts is an open if and only if `first`, and the next byte is as P says; one that it refuses has a number.
 abbrev Accepts : Bool → (ℕ → Type 0) → Reading → Type 0
 Accepts first P (Reading.Record e next) = (opens e ≡ first) × P next
-Accepts first P (Reading.Refused n) = Unit {0}
+Accepts first P (Reading.Refused n) = 6 ≤ n
 
 by-test : (Q : Reading → Type 0) (t : Bool) {x y : Reading} → (t ≡ true → Q x) → (t ≡ false → Q y) → Q (cond t x y)
 by-test Q true p q = p refl
@@ -36,7 +37,7 @@ module _ (first : Bool) (P : ℕ → Type 0) (tag : ℕ) (l : List ℕ) (i next 
   Q = Accepts first P
 
   if-named : (t : Bool) (e : Event) → opens e ≡ eqb tag 1 → Q (ifNamed t e next)
-  if-named t e q = by-test Q t (λ z. (q ∙ o, p)) (λ z. tt)
+  if-named t e q = by-test Q t (λ z. (q ∙ o, p)) (λ z. omega arith)
 
   meant : Q (meaning tag l i next)
   unfolding meaning
@@ -66,11 +67,11 @@ accepted l at =
     let n = number 2 l (at + 1) in
     let next = at + 3 + n in
     let Q : Reading → Type 0 = Accepts (eqb at 0) (Within l at) in
-    by-test Q (ltb (length l) (at + 3)) (λ z. tt) (λ z.
-    by-test Q (ltb (length l) next) (λ z. tt) (λ e.
-    by-test Q (eqb (bodyLength tag) 0) (λ z. tt) (λ z.
-    by-test Q (not (eqb n (bodyLength tag))) (λ z. tt) (λ z.
-    by-test Q (not (placed tag at)) (λ z. tt) (λ d.
+    by-test Q (ltb (length l) (at + 3)) (λ z. omega arith) (λ z.
+    by-test Q (ltb (length l) next) (λ z. omega arith) (λ e.
+    by-test Q (eqb (bodyLength tag) 0) (λ z. omega arith) (λ z.
+    by-test Q (not (eqb n (bodyLength tag))) (λ z. omega arith) (λ z.
+    by-test Q (not (placed tag at)) (λ z. omega arith) (λ d.
     let o = stands (eqb at 0) (eqb tag 1) (not-false (placed tag at) d) in
     meant (eqb at 0) (Within l at) tag l (at + 3) next o (omega arith, ltb-false (length l) next e))))))
 
@@ -83,3 +84,6 @@ module _ (l : List ℕ) (at : ℕ) (e : Event) (next : ℕ) (h : read l at ≡ R
 
   pub read-next : (at + 3 ≤ next) × (next ≤ length l)
   read-next = right .1
+
+pub read-refused : (l : List ℕ) (at n : ℕ) → read l at ≡ Reading.Refused n → 6 ≤ n
+read-refused l at n h = rw h at (accepted l at)

@@ -67,7 +67,7 @@ unfolding levels
 silent zero m = refl
 silent (suc n) m = refl
 
-differ : true ≡ false → ⊥
+pub differ : true ≡ false → ⊥
 differ h =
     let e : _≡_ {A = ℕ} 1 0 = ap (λ (t : Bool). cond {A = ℕ} t 1 0) h in
     absurd (omega (arith, e))
@@ -135,7 +135,7 @@ module _ (b : EnvelopeBank) where
   twice : min (b .voices) 64 ≡ min (min (b .voices) 64) 64
   twice = omega arith
 
-  opened-voices : (o : Opening) → openingRefusal o ≡ 0 → size (new o .bank) ≡ min (o .voices) 64
+  pub opened-voices : (o : Opening) → openingRefusal o ≡ 0 → size (new o .bank) ≡ min (o .voices) 64
   unfolding new opened idle
   opened-voices o z = ap (λ (x : Opening). min (x .voices) 64) (if-accepted (openingRefusal o) o _ z)
 

@@ -3,3 +3,5 @@ pub mod Bytes
 pub mod Signs
 pub mod Doing
 pub mod Progress
+pub mod Takes
+pub mod Written

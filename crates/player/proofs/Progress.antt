@@ -29,7 +29,7 @@ use Rattle.checking.specs.declared.Checked.{Checked}
 use Rattle.checking.specs.Deeds.{deed, knownAfter, framesOf}
 use Rattle.checking.specs.Checks.{start, passed, judged, met, checkedFrom, checked}
 use Rattle.checking.proofs.Judging.{passed-few}
-use Rattle.checking.proofs.Passing.{one-more, some, none, still, Accepted, judged-accepted}
+use Rattle.checking.proofs.Passing.{one-more, some, refused-none, still, Accepted, judged-accepted}
 use Rattle.player.specs.declared.turns.Turn.{Turn}
 use Rattle.player.specs.Parts.{turnOf}
 use Rattle.player.specs.Playing.{ifRecord, eventsFrom, events, unopened, after, handed, heard, bytes}
@@ -60,7 +60,7 @@ pub record Played (l out₀ out : List ℕ) (b : EnvelopeBank) (at to owed recor
 
 -- ---- the start
 
-unopened-voices : size unopened ≡ 0
+pub unopened-voices : size unopened ≡ 0
 unfolding new opened idle
 unopened-voices = go (openingRefusal (opening 0 amp (Clock.new Constants.zero)))
   where
@@ -75,11 +75,6 @@ unopened-sized = idle-sized _ _ _
 pub begun : (l out : List ℕ) (b : EnvelopeBank) → b ≡ unopened → checked l (length out) .refusal ≡ 0 → Played l out out b 0 0 0 (length l)
 begun l out b e z = subst (λ (b : EnvelopeBank). Played l out out b 0 0 0 (length l)) (sym e) opened-none
   where
-    there : length l ≡ 0 → ⊥
-    there n =
-        let h : _≡_ {A = ℕ} 9 0 = ap (λ (c : Checked). c .refusal) (none l (length out) n) ∙ z in
-        absurd (omega (arith, h))
-
     opened-none : Played l out out unopened 0 0 0 (length l)
     opened-none =
         record {
@@ -89,7 +84,7 @@ begun l out b e z = subst (λ (b : EnvelopeBank). Played l out out b 0 0 0 (leng
           first = λ h. refl;
           passes =
               ap (λ (n : ℕ). checkedFrom (length l) l (length out / 4) (record { refusal = 0; at = 0; voices = n; frames = 0 }) .refusal) unopened-voices
-              ∙ ap (λ (c : Checked). c .refusal) (some l (length out) there)
+              ∙ ap (λ (c : Checked). c .refusal) (some l (length out) (refused-none l (length out) z))
               ∙ z;
           place = omega arith;
           room = omega arith;
@@ -98,7 +93,7 @@ begun l out b e z = subst (λ (b : EnvelopeBank). Played l out out b 0 0 0 (leng
 
 -- ---- a record
 
-events-more : (n : ℕ) (l : List ℕ) (at : ℕ) (e : Event) (next : ℕ) → 0 < n → Format.read l at ≡ Reading.Record e next
+pub events-more : (n : ℕ) (l : List ℕ) (at : ℕ) (e : Event) (next : ℕ) → 0 < n → Format.read l at ≡ Reading.Record e next
     → eventsFrom n l at ≡ e ∷ eventsFrom (n - 1) l next
 events-more zero l at e next h is = absurd (omega arith)
 events-more (suc n) l at e next h is =
