@@ -75,8 +75,5 @@ fn voices() {
     let note = Event::Trigger(16, Trigger::New).record();
     let levels = printed(&[open(17), note, frames].concat());
     let silent = " 00000000".repeat(16);
-    assert_eq!(
-        levels,
-        format!("0{silent} 00000000\n1{silent} 3f800000\n")
-    );
+    assert_eq!(levels, format!("0{silent} 00000000\n1{silent} 3f800000\n"));
 }

@@ -9,7 +9,7 @@ use Rattle.events.specs.declared.Event.{Event}
 use Rattle.events.specs.declared.Reading.{Reading}
 use Rattle.events.specs.Format as Format
 use Rattle.checking.specs.declared.Checked.{Checked}
-use Rattle.checking.specs.Deeds.{Deed, deed, ownRefusal, knownOf, knownAfter, framesOf}
+use Rattle.checking.specs.Deeds.{deed, ownRefusal, knownOf, knownAfter, framesOf}
 
 -- Before the first record.
 abbrev pub start : Checked

@@ -1,13 +1,12 @@
 -- What an accepted event makes of the bank, by the turn that the code takes for it.
 use mathlib.Core.Path.{_≡_, refl, sym, ap, _∙_, subst}
 use mathlib.Core.Bool.{Bool, true, false, cond}
-use mathlib.Core.List.{List, []}
-use Prim.Native.Nat.{ℕ, zero, suc, _*_, _/_, _<_, _≤_, min}
+use mathlib.Core.List.{[]}
+use Prim.Native.Nat.{ℕ, zero, suc, _<_, min}
 use native.Mathlib.Omega.{arith}
-use lib.Ieee.{Float}
 use Rattle.bank.specs.declared.banks.EnvelopeBank.{EnvelopeBank}
 use Rattle.bank.specs.Calls as Calls
-use Rattle.bank.specs.Calls.{Opening, opening, Call, Known, strideOf, ifAccepted, openingRefusal, opened, refusal}
+use Rattle.bank.specs.Calls.{Opening, opening, Call, ifAccepted, openingRefusal, opened, refusal}
 use Rattle.bank.specs.Banks.{voice, size, known, arrange, put, onAll, withTiming, frames, rows, idle, new, moved, answer}
 use Rattle.bank.specs.Replies.{Reply, reply}
 use Rattle.bank.proofs.Lanes.{Sized, arrange-sized, idle-sized}
@@ -15,7 +14,7 @@ use Rattle.histories.proofs.Kept.{named}
 use Rattle.histories.proofs.Blocks.{whole, block-frames}
 use Rattle.events.specs.declared.Event.{Event}
 use Rattle.events.proofs.Records as Records
-use Rattle.checking.specs.Deeds.{Deed, opens, calls, deed, ownRefusal, knownOf, knownAfter, framesOf}
+use Rattle.checking.specs.Deeds.{opens, deed, ownRefusal, knownAfter, framesOf}
 use Rattle.checking.proofs.Judging.{if-accepted}
 use Rattle.player.specs.declared.turns.Turn.{Turn}
 use Rattle.player.specs.Parts.{turnOf, changed}

@@ -1,10 +1,10 @@
 -- How far a list is played: what the loop of `play` keeps, and what a turn makes of it.
 use mathlib.Core.Path.{_≡_, refl, sym, ap, ap₂, _∙_, subst}
-use mathlib.Core.Bool.{Bool, true, false, cond}
+use mathlib.Core.Bool.{Bool, true, false}
 use mathlib.Core.List.{List, [], _∷_, _++_, append-assoc}
 use Prim.Native.Nat.{ℕ, zero, suc, _+_, _*_, _-_, _/_, _<_, _≤_, min}
 use native.Mathlib.Omega.{arith}
-use native.Mathlib.Nat.{add-mul, mul-le-mul-right, div-mul-le-self}
+use native.Mathlib.Nat.{add-mul, div-mul-le-self}
 use borrow.Author.Tests.{eqb-true}
 use lib.Dec.{eqb}
 use lib.Ieee.{Float}
@@ -14,7 +14,7 @@ use Rattle.numbers.specs.Constants as Constants
 use Rattle.timing.specs.Clock as Clock
 use Rattle.lane.specs.Settings.{amp}
 use Rattle.bank.specs.declared.banks.EnvelopeBank.{EnvelopeBank}
-use Rattle.bank.specs.Calls.{Opening, opening, Call, strideOf, ifAccepted, openingRefusal, opened}
+use Rattle.bank.specs.Calls.{opening, Call, strideOf, ifAccepted, openingRefusal, opened}
 use Rattle.bank.specs.Banks.{size, known, frames, rows, idle, new, answer}
 use Rattle.bank.proofs.Lanes.{Sized, idle-sized}
 use Rattle.bank.proofs.Frames.{frames-lanes, length-rows}
@@ -23,16 +23,15 @@ use Rattle.histories.proofs.Blocks.{block-frames}
 use Rattle.events.specs.declared.Event.{Event}
 use Rattle.events.specs.declared.Reading.{Reading}
 use Rattle.events.specs.Format as Format
-use Rattle.events.proofs.Records as Records
 use Rattle.events.proofs.Records.{read-first, read-next}
 use Rattle.checking.specs.declared.Checked.{Checked}
-use Rattle.checking.specs.Deeds.{deed, knownAfter, framesOf}
+use Rattle.checking.specs.Deeds.{deed, framesOf}
 use Rattle.checking.specs.Checks.{start, passed, judged, met, checkedFrom, checked}
 use Rattle.checking.proofs.Judging.{passed-few}
 use Rattle.checking.proofs.Passing.{one-more, some, refused-none, still, Accepted, judged-accepted}
 use Rattle.player.specs.declared.turns.Turn.{Turn}
 use Rattle.player.specs.Parts.{turnOf}
-use Rattle.player.specs.Playing.{ifRecord, eventsFrom, events, unopened, after, handed, heard, bytes}
+use Rattle.player.specs.Playing.{ifRecord, eventsFrom, events, unopened, after, heard, bytes}
 use Rattle.player.proofs.Bytes.{sets-append, bytes-append, length-bytes}
 use Rattle.player.proofs.Doing.{draws, InLanes, turned, in-lanes, turned-after, quiet, asks-none, turned-voices, turned-sized, same-voices, owing, Drawn, drawn}
 

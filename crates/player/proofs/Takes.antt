@@ -1,18 +1,17 @@
 -- What is heard is due: demand 3, for a host that plays a list.
-use mathlib.Core.Path.{_≡_, refl, sym, ap, ap₂, _∙_, subst}
+use mathlib.Core.Path.{_≡_, refl, sym, ap, _∙_, subst}
 use mathlib.Core.Bool.{Bool, true, false}
 use mathlib.Core.List.{List, [], _∷_, _++_}
-use Prim.Native.Nat.{ℕ, zero, suc, _+_, _-_, _/_, _<_, _≤_, min}
+use Prim.Native.Nat.{ℕ, zero, suc, _-_, _/_, _<_, _≤_, min}
 use native.Mathlib.Omega.{arith}
 use borrow.Author.Tests.{ne-eqb}
-use lib.Dec.{eqb}
 use lib.Ieee.{Float}
 use lib.ListN.{length}
 use Rattle.bank.specs.declared.banks.EnvelopeBank.{EnvelopeBank}
-use Rattle.bank.specs.Calls.{Opening, opening, Call, Known, learned, ifAccepted, openingRefusal, refusal}
+use Rattle.bank.specs.Calls.{opening, Call, Known, learned, ifAccepted, refusal}
 use Rattle.bank.specs.Banks.{size, known, new, moved, answer}
 use Rattle.bank.specs.Replies.{reply}
-use Rattle.histories.specs.Demand.{firstReading, repliesFrom, dues, voicesOf}
+use Rattle.histories.specs.Demand.{firstReading, repliesFrom}
 use Rattle.histories.proofs.Kept.{kept}
 use Rattle.histories.proofs.Stands.{fresh-stands}
 use Rattle.histories.proofs.Answers.{replies-due}
@@ -23,13 +22,13 @@ use Rattle.events.proofs.Records as Records
 use Rattle.events.proofs.Records.{read-first, read-next, read-refused}
 use Rattle.checking.specs.declared.Checked.{Checked}
 use Rattle.checking.specs.Deeds.{Deed, opens, calls, deed, ownRefusal, knownOf, knownAfter}
-use Rattle.checking.specs.Checks.{start, passed, judged, met, checkedFrom, checked}
+use Rattle.checking.specs.Checks.{start, judged, met, checked}
 use Rattle.checking.proofs.Judging.{own, passed-few}
 use Rattle.checking.proofs.Passing.{one-more, some, refused-none, still, judged-accepted}
 use Rattle.player.proofs.Doing.{differ, opened-voices}
 use Rattle.player.proofs.Progress.{events-more}
-use Rattle.player.specs.Playing.{ifRecord, eventsFrom, events, unopened, after, levels, handed, heard}
-use Rattle.player.specs.Takes.{openingOf, laterOf, ifCall, callsOf, levelsOf, Due}
+use Rattle.player.specs.Playing.{ifRecord, eventsFrom, events, after, levels, handed, heard}
+use Rattle.player.specs.Takes.{ifCall, callsOf, levelsOf, Due}
 
 -- No event of a list opens a bank.
 abbrev Closed : List Event → Type 0

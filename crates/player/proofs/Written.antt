@@ -1,8 +1,8 @@
 -- As many frames are written as are returned, from the output's first byte on.
-use mathlib.Core.Path.{_≡_, refl, sym, ap, ap₂, _∙_, subst}
+use mathlib.Core.Path.{_≡_, refl, sym, ap, _∙_}
 use mathlib.Core.Bool.{Bool, true, false}
-use mathlib.Core.List.{List, [], _∷_, _++_}
-use Prim.Native.Nat.{ℕ, zero, suc, _+_, _*_, _/_, _<_, _≤_, min}
+use mathlib.Core.List.{List, _∷_, _++_}
+use Prim.Native.Nat.{ℕ, zero, suc, _+_, _*_, _/_, _≤_, min}
 use native.Mathlib.Omega.{arith}
 use native.Mathlib.Nat.{add-mul, div-mul-le-self}
 use borrow.Author.Tests.{eqb-true, ltb-true, ltb-false}
@@ -27,7 +27,7 @@ use Rattle.checking.proofs.Passing.{some, refused-none, still, ended, next-chec
 use Rattle.player.specs.Parts.{turnOf}
 use Rattle.player.specs.Playing.{ifRecord, eventsFrom, events, unopened, after, handed, heard, bytes, output}
 use Rattle.player.proofs.Bytes.{length-bytes}
-use Rattle.player.proofs.Doing.{draws, turned, turned-after, turned-voices, quiet, asks-none, same-voices, Drawn, drawn}
+use Rattle.player.proofs.Doing.{draws, turned-after, turned-voices, quiet, asks-none, same-voices, drawn}
 use Rattle.player.proofs.Progress.{far, unopened-voices}
 
 -- An accepted event: its levels, and its bank.

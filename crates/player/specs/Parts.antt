@@ -1,5 +1,4 @@
 -- What the player's private functions promise each other. No public statement cites this file.
-use Prim.Native.Nat.{ℕ}
 use Rattle.timing.specs.declared.Timing.{Timing}
 use Rattle.lane.specs.declared.lanes.Voice.{Voice}
 use Rattle.lane.specs.Voices as Voices

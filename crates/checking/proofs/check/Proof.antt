@@ -8,8 +8,6 @@ use Rattle.checking.specs.Checks.{start, checkedFrom}
 use Rattle.checking.proofs.Passing.{Held, held-start, held-frames, met-held, stopped, ended, one-more, none, some}
 use Rattle.checking.proofs.check.Statement.{statement}
 use Rattle.checking.proofs.check.Tie as tie
-use Rattle.checking.proofs.record.Reads as record-reads
-use Rattle.checking.proofs.refused.Reads as refused-reads
 
 abbrev Inv-loop : tie.InvT-loop
 Inv-loop list out-len room c₀ turns₀ c turns = Held room c × (checkedFrom turns list room c ≡ checkedFrom (length list) list room start)

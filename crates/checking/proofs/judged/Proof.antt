@@ -1,14 +1,9 @@
 use mathlib.Core.Path.{_≡_, _∙_}
 use native.Mathlib.Omega.{arith}
-use Rattle.checking.proofs.Judging.{own, judged-own, stride-some, found-full, found-room}
+use Rattle.checking.proofs.Judging.{own, judged-own, found-full, found-room}
 use borrow.Author.Needs.{needs}
 use Rattle.checking.proofs.judged.Statement.{statement}
 use Rattle.checking.proofs.judged.Tie as tie
-use Rattle.bank.proofs.stride_of.Reads as stride-of-reads
-use Rattle.checking.proofs.frames_of.Reads as frames-of-reads
-use Rattle.checking.proofs.own_refusal.Reads as own-refusal-reads
-use Rattle.checking.proofs.refused.Reads as refused-reads
-use Rattle.checking.proofs.voices_after.Reads as voices-after-reads
 
 own-refusal-requires : tie.Need-own-refusal-requires
 own-refusal-requires c κs = search needs

@@ -6,10 +6,6 @@ use Rattle.checking.specs.Deeds.{deed, knownOf, ownRefusal}
 use borrow.Author.Needs.{needs}
 use Rattle.checking.proofs.own_refusal.Statement.{statement}
 use Rattle.checking.proofs.own_refusal.Tie as tie
-use Rattle.bank.proofs.refused_opening.Reads as refused-opening-reads
-use Rattle.checking.proofs.refused_voice.Reads as refused-voice-reads
-use Rattle.lane.proofs.refused_params.Reads as refused-params-reads
-use Rattle.lane.proofs.refused_timing.Reads as refused-timing-reads
 
 enum-known-event : tie.Need-enum-known-event
 enum-known-event c = search needs

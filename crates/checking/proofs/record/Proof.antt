@@ -2,9 +2,6 @@ use Rattle.checking.specs.Checks.{met}
 use borrow.Author.Needs.{needs}
 use Rattle.checking.proofs.record.Statement.{statement}
 use Rattle.checking.proofs.record.Tie as tie
-use Rattle.checking.proofs.judged.Reads as judged-reads
-use Rattle.checking.proofs.refused.Reads as refused-reads
-use Rattle.events.proofs.read.Reads as read-reads
 
 read-requires : tie.Need-read-requires
 read-requires c κs = search needs

@@ -20,7 +20,6 @@ use Rattle.events.specs.declared.Event.{Event}
 use Rattle.events.specs.declared.Reading.{Reading}
 use Rattle.events.specs.Format as Format
 use Rattle.player.specs.declared.turns.Turn.{Turn}
-use Rattle.player.specs.Parts.{turnOf}
 use Rattle.player.proofs.Bytes.{lent-long, block-long, block-front}
 use Rattle.player.proofs.Doing.{draws, InLanes, turned}
 use Rattle.player.proofs.Progress.{Played, begun, lanes-there, done, asked-for, block-fits, drew, no-records, no-record, finished}

@@ -9,8 +9,6 @@ use Rattle.player.specs.Playing.{lowestFirst, bytes}
 use Rattle.player.proofs.Bytes.{level-put, levels-put}
 use Rattle.player.proofs.put_levels.Statement.{statement}
 use Rattle.player.proofs.put_levels.Tie as tie
-use Rattle.numbers.proofs.f32_to_bits.Reads as f32-to-bits-reads
-use Rattle.player.proofs.put_bits.Reads as put-bits-reads
 
 abbrev Inv-loop : tie.InvT-loop
 Inv-loop levels count out₀ at i₀ out i =

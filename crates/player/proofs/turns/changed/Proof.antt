@@ -2,10 +2,6 @@ use Rattle.player.specs.Parts.{changed}
 use borrow.Author.Needs.{needs}
 use Rattle.player.proofs.turns.changed.Statement.{statement}
 use Rattle.player.proofs.turns.changed.Tie as tie
-use Rattle.lane.proofs.lanes.Voice.release.Reads as release-reads
-use Rattle.lane.proofs.lanes.Voice.reset.Reads as reset-reads
-use Rattle.lane.proofs.lanes.Voice.set_params.Reads as set-params-reads
-use Rattle.lane.proofs.lanes.Voice.trigger.Reads as trigger-reads
 
 enum-told : tie.Need-enum-told
 enum-told c = search needs
