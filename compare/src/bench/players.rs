@@ -36,6 +36,12 @@ const SETTINGS: EnvelopeParams = EnvelopeParams {
     ..EnvelopeParams::AMP
 };
 
+/// A bent decay of 20 s, so that no voice stands still within a take.
+const MOVING: EnvelopeParams = EnvelopeParams {
+    decay: 20_000.0,
+    ..SETTINGS
+};
+
 /// Prints the tables.
 pub fn print() {
     long_takes();
@@ -99,16 +105,25 @@ fn stride(voices: u8) -> usize {
     usize::from(voices).div_ceil(16).max(1) * 16
 }
 
-/// A note on every voice, then long blocks with a few events before each.
-fn long_take(voices: u8) -> Vec<u8> {
+/// A note on every voice, then long blocks with a few events before each: as
+/// they come, or new notes alone, whose decay outlasts the take.
+fn long_take(voices: u8, moving: bool) -> Vec<u8> {
     let mut list = List::open(voices);
+    if moving {
+        list.push(Event::SettingsForAll(MOVING));
+    }
     for voice in 0..voices {
         list.push(Event::Trigger(voice, Trigger::New));
     }
     let frames = (LONG / 4 / stride(voices)) as u32;
     for _ in 0..LONG_RECORDS {
         for _ in 0..LONG_EVENTS {
-            list.event();
+            if moving {
+                let voice = list.voice();
+                list.push(Event::Trigger(voice, Trigger::New));
+            } else {
+                list.event();
+            }
         }
         list.push(Event::Frames(frames / LONG_RECORDS));
     }
@@ -150,18 +165,20 @@ fn plays(list: &[u8], times: usize, out_len: usize) -> (f64, f64) {
 }
 
 fn long_takes() {
-    println!("\n| Voices of a long take | Levels | Ours, ns a level | Rust, ns a level | Ratio |");
-    println!("|---:|---:|---:|---:|---:|");
-    for voices in [1, 16, 64] {
-        let (ours, rust) = plays(&long_take(voices), 1, LONG);
-        let levels = LONG / 4;
-        let each = |nanoseconds: f64| nanoseconds / levels as f64;
-        println!(
-            "| {voices} | {levels} | {:.3} | {:.3} | {:.2} |",
-            each(ours),
-            each(rust),
-            ours / rust
-        );
+    println!("\n| Long take | Voices | Levels | Ours, ns a level | Rust, ns a level | Ratio |");
+    println!("|---|---:|---:|---:|---:|---:|");
+    for (about, moving) in [("every voice moving", true), ("events as they come", false)] {
+        for voices in [1, 16, 64] {
+            let (ours, rust) = plays(&long_take(voices, moving), 1, LONG);
+            let levels = LONG / 4;
+            let each = |nanoseconds: f64| nanoseconds / levels as f64;
+            println!(
+                "| {about} | {voices} | {levels} | {:.3} | {:.3} | {:.2} |",
+                each(ours),
+                each(rust),
+                ours / rust
+            );
+        }
     }
 }
 
@@ -262,7 +279,7 @@ fn checks() {
 fn stack() {
     println!("\n| Peak stack of | Ours, bytes | Rust, bytes |");
     println!("|---|---:|---:|");
-    let list = long_take(64);
+    let list = long_take(64, false);
     let mut out = vec![0; LONG];
     let [play, refused_at] = library::player_addresses();
     let ours = stacks::deepest(play, &list, &mut out);
