@@ -11,7 +11,7 @@ use lib.Ieee.{Float, nan}
 use lib.ListN.{length, getD, set, length-set}
 use lib.Seq.{ext-getD, getD-set-same, getD-set-other}
 use Rattle.timing.specs.declared.Timing.{Timing}
-use Rattle.lane.specs.declared.settings.EnvelopeParams.{EnvelopeParams}
+use Rattle.settings.specs.declared.settings.EnvelopeParams.{EnvelopeParams}
 use Rattle.lane.specs.declared.lanes.Lane.{Lane}
 use Rattle.lane.specs.declared.lanes.Voice.{Voice}
 use Rattle.bank.specs.declared.banks.EnvelopeBank.{EnvelopeBank}

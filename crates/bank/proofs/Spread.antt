@@ -9,7 +9,7 @@ use lib.Dec.{ltb, eqb}
 use Rattle.numbers.specs.Constants as Constants
 use Rattle.timing.specs.declared.Timing.{Timing}
 use Rattle.timing.specs.Clock as Clock
-use Rattle.lane.specs.Settings.{amp}
+use Rattle.settings.specs.Settings.{amp}
 use Rattle.lane.specs.declared.lanes.Voice.{Voice}
 use Rattle.envelope.proofs.Fill.{split}
 use Rattle.bank.specs.declared.banks.EnvelopeBank.{EnvelopeBank}

@@ -9,9 +9,9 @@ use Rattle.numbers.specs.Constants as Constants
 use Rattle.timing.specs.declared.Timing.{Timing}
 use Rattle.timing.specs.declared.TimeUnit.the-variants.{Milliseconds}
 use Rattle.curve.specs.Segments as Segments
-use Rattle.lane.specs.declared.settings.EnvelopeParams.{EnvelopeParams}
-use Rattle.lane.specs.declared.settings.StealRestart.the-variants.{CurrentLevel}
-use Rattle.lane.specs.declared.stages.Stage.the-variants.{Idle}
+use Rattle.settings.specs.declared.settings.EnvelopeParams.{EnvelopeParams}
+use Rattle.settings.specs.declared.settings.StealRestart.the-variants.{CurrentLevel}
+use Rattle.settings.specs.declared.stages.Stage.the-variants.{Idle}
 use Rattle.lane.specs.declared.lanes.Lane.{Lane}
 use Rattle.lane.specs.declared.lanes.Voice.{Voice}
 use Rattle.lane.specs.Planning as Planning

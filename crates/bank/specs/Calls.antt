@@ -5,10 +5,10 @@ use lib.Dec.{ltb, eqb}
 use Rattle.numbers.specs.Constants as Constants
 use Rattle.timing.specs.declared.Timing.{Timing}
 use Rattle.timing.specs.Clock as Clock
-use Rattle.lane.specs.declared.settings.EnvelopeParams.{EnvelopeParams}
-use Rattle.lane.specs.declared.settings.Trigger.{Trigger}
-use Rattle.lane.specs.Settings.{amp}
-use Rattle.lane.specs.Refusals as Refusals
+use Rattle.settings.specs.declared.settings.EnvelopeParams.{EnvelopeParams}
+use Rattle.settings.specs.declared.settings.Trigger.{Trigger}
+use Rattle.settings.specs.Settings.{amp}
+use Rattle.settings.specs.Refusals as Refusals
 
 -- ---- the calls
 

@@ -4,10 +4,10 @@ ghost use mathlib.Core.Path.{_≡_};
 ghost use Prim.Native.Nat.{min};
 ghost use Rattle.bank.specs.Banks as Banks;
 ghost use Rattle.bank.specs.Calls as Calls;
-use lane::ACCEPTED;
-use lane::EnvelopeParams;
 use lane::Lane;
-use lane::TOO_MANY_VOICES;
+use settings::ACCEPTED;
+use settings::EnvelopeParams;
+use settings::TOO_MANY_VOICES;
 use timing::Timing;
 
 pub const MAX_VOICES: usize = 64;
@@ -71,7 +71,7 @@ pub fn refused_opening(voices: usize, params: EnvelopeParams, timing: Timing) ->
     if voices > MAX_VOICES {
         return TOO_MANY_VOICES;
     }
-    lane::refused_fresh(params, timing)
+    settings::refused_fresh(params, timing)
 }
 
 // Idle envelopes.

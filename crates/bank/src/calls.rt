@@ -12,12 +12,12 @@ use crate::banks::Answer;
 use crate::banks::EnvelopeBank;
 use crate::banks::count;
 use curve::Segment;
-use lane::ACCEPTED;
-use lane::EnvelopeParams;
-use lane::NO_SUCH_VOICE;
-use lane::Stage;
-use lane::Trigger;
 use lane::Voice;
+use settings::ACCEPTED;
+use settings::EnvelopeParams;
+use settings::NO_SUCH_VOICE;
+use settings::Stage;
+use settings::Trigger;
 use timing::Timing;
 
 // What is read of a voice that the bank has. That it has no such voice is document 01's number 2.
@@ -190,7 +190,7 @@ impl EnvelopeBank {
             };
         }
         self.with(
-            lane::refused_params(params),
+            settings::refused_params(params),
             self.timing,
             voice,
             1,
@@ -203,7 +203,7 @@ impl EnvelopeBank {
         ensures { λ r. ⌜ r ≡ Banks.answer self (Call.setAllParams params) ⌝ }
     {
         self.with(
-            lane::refused_params(params),
+            settings::refused_params(params),
             self.timing,
             0,
             count(self.voices),
@@ -217,7 +217,7 @@ impl EnvelopeBank {
         ensures { λ r. ⌜ r ≡ Banks.answer self (Call.setTiming timing) ⌝ }
     {
         self.with(
-            lane::refused_timing(timing),
+            settings::refused_timing(timing),
             timing,
             0,
             count(self.voices),

@@ -16,8 +16,8 @@ use crate::banks::EnvelopeBank;
 use crate::banks::count;
 use crate::banks::groups;
 use curve::UNTIMED;
-use lane::ACCEPTED;
-use lane::NOT_WHOLE_FRAMES;
+use settings::ACCEPTED;
+use settings::NOT_WHOLE_FRAMES;
 
 fn pick(first: bool, a: f32, b: f32) -> f32
     ensures { λ r. ⌜ r ≡ cond first a b ⌝ }

@@ -7,13 +7,11 @@ ghost use Rattle.events.specs.Format as Format;
 ghost use Rattle.checking.specs.Checks as Checks;
 ghost use Rattle.checking.specs.Deeds as Deeds;
 use events::Event;
-use events::MISPLACED_OPEN;
 use events::Reading;
-use lane::ACCEPTED;
-use lane::NO_SUCH_VOICE;
-
-// More frames than the output holds.
-pub const OUTPUT_TOO_SHORT: u32 = 11;
+use settings::ACCEPTED;
+use settings::MISPLACED_OPEN;
+use settings::NO_SUCH_VOICE;
+use settings::OUTPUT_TOO_SHORT;
 
 // How far a list is checked: the number of the refusal, 0 if nothing is refused; the first byte of
 // the record that is refused or comes next; the voices that the list opens, and its frames so far.
@@ -57,12 +55,12 @@ fn own_refusal(voices: usize, event: Event) -> u32
         } => bank::refused_opening(voices as usize, params, timing),
         Event::SetParams { voice, params } => {
             if (voice as usize) < voices {
-                return lane::refused_params(params);
+                return settings::refused_params(params);
             }
             NO_SUCH_VOICE
         }
-        Event::SetAllParams(params) => lane::refused_params(params),
-        Event::SetTiming(timing) => lane::refused_timing(timing),
+        Event::SetAllParams(params) => settings::refused_params(params),
+        Event::SetTiming(timing) => settings::refused_timing(timing),
         Event::Trigger { voice, trigger: _ } => refused_voice(voices, voice),
         Event::Release(voice) => refused_voice(voices, voice),
         Event::Reset(voice) => refused_voice(voices, voice),

@@ -6,8 +6,8 @@ use native.Mathlib.Nat.{sub-zero}
 use Rattle.numbers.specs.Counts.{held}
 use Rattle.numbers.specs.Limits.{unit}
 use Rattle.timing.specs.Samples.{samples}
-use Rattle.lane.specs.declared.settings.Trigger.{Trigger}
-use Rattle.lane.specs.declared.settings.Trigger.the-variants.{New}
+use Rattle.settings.specs.declared.settings.Trigger.{Trigger}
+use Rattle.settings.specs.declared.settings.Trigger.the-variants.{New}
 use Rattle.lane.specs.Voices.{leavesAlone, noteLevel}
 use Rattle.lane.specs.Schedule.{scheduled}
 use Rattle.lane.proofs.Lengths.{attackLasts, lengths}

@@ -9,12 +9,12 @@ use borrow.Author.Tests.{eqb-true}
 use lib.Dec.{eqb}
 use lib.Ieee.{lt, ofBits}
 use Rattle.timing.specs.declared.Timing.{Timing}
-use Rattle.lane.specs.declared.settings.EnvelopeParams.{EnvelopeParams}
+use Rattle.settings.specs.declared.settings.EnvelopeParams.{EnvelopeParams}
 use Rattle.lane.specs.declared.lanes.Voice.{Voice}
-use Rattle.lane.specs.Stages.{holds, leadsUp}
+use Rattle.settings.specs.Stages.{holds, leadsUp}
 use Rattle.lane.specs.Planning as Planning
-use Rattle.lane.specs.Refusals as Refusals
-use Rattle.lane.specs.Refusals.{timeOver, rateOver}
+use Rattle.settings.specs.Refusals as Refusals
+use Rattle.settings.specs.Refusals.{timeOver, rateOver}
 use Rattle.lane.specs.Voices as Voices
 use Rattle.lane.proofs.Counts.{Counted, most, counted-limited}
 use Rattle.lane.proofs.Timed.{Unguarded, unguarded}

@@ -8,13 +8,13 @@ use Rattle.numbers.specs.Constants as Constants
 use Rattle.timing.specs.declared.Timing.{Timing}
 use Rattle.timing.specs.Clock as Clock
 use Rattle.curve.specs.Segments as Segments
-use Rattle.lane.specs.declared.settings.EnvelopeParams.{EnvelopeParams}
-use Rattle.lane.specs.declared.settings.Trigger.{Trigger}
-use Rattle.lane.specs.declared.stages.Stage.{Stage}
-use Rattle.lane.specs.Settings.{amp}
-use Rattle.lane.specs.Stages as Stages
+use Rattle.settings.specs.declared.settings.EnvelopeParams.{EnvelopeParams}
+use Rattle.settings.specs.declared.settings.Trigger.{Trigger}
+use Rattle.settings.specs.declared.stages.Stage.{Stage}
+use Rattle.settings.specs.Settings.{amp}
+use Rattle.settings.specs.Stages as Stages
 use Rattle.lane.specs.Planning as Planning
-use Rattle.lane.specs.Refusals as Refusals
+use Rattle.settings.specs.Refusals as Refusals
 use Rattle.lane.specs.Readings as Readings
 use Rattle.lane.specs.Voices as Voices
 use Rattle.envelope.specs.declared.envelopes.Envelope.{Envelope}

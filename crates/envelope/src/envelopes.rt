@@ -1,12 +1,12 @@
 // The calls and readings of the single envelope.
 ghost use mathlib.Core.Path.{_≡_};
 ghost use Rattle.envelope.specs.Envelopes as Envelopes;
-use lane::ACCEPTED;
-use lane::EnvelopeParams;
 use lane::Lane;
-use lane::Stage;
-use lane::Trigger;
 use lane::Voice;
+use settings::ACCEPTED;
+use settings::EnvelopeParams;
+use settings::Stage;
+use settings::Trigger;
 use timing::Timing;
 
 // One voice's envelope: the voice, and the clock that its times are measured against.
@@ -33,7 +33,7 @@ impl Envelope {
     pub fn fresh(params: EnvelopeParams, timing: Timing) -> Answer
         ensures { λ r. ⌜ r ≡ Envelopes.fresh params timing ⌝ }
     {
-        let refusal = lane::refused_fresh(params, timing);
+        let refusal = settings::refused_fresh(params, timing);
         if refusal != ACCEPTED {
             return Answer {
                 refusal: refusal,
@@ -56,7 +56,7 @@ impl Envelope {
     pub fn with_params(self, params: EnvelopeParams) -> Answer
         ensures { λ r. ⌜ r ≡ Envelopes.setParams params self ⌝ }
     {
-        let refusal = lane::refused_params(params);
+        let refusal = settings::refused_params(params);
         if refusal != ACCEPTED {
             return Answer {
                 refusal: refusal,
@@ -78,7 +78,7 @@ impl Envelope {
     pub fn with_timing(self, timing: Timing) -> Answer
         ensures { λ r. ⌜ r ≡ Envelopes.setTiming timing self ⌝ }
     {
-        let refusal = lane::refused_timing(timing);
+        let refusal = settings::refused_timing(timing);
         if refusal != ACCEPTED {
             return Answer {
                 refusal: refusal,

@@ -8,11 +8,11 @@ use lib.Ieee.{Float, binary32, binary64, ofBits}
 use Rattle.timing.specs.declared.Timing.{Timing}
 use Rattle.timing.specs.declared.TimeUnit.{TimeUnit}
 use Rattle.timing.specs.declared.TimeUnit.the-variants.{Milliseconds, Tempo}
-use Rattle.lane.specs.declared.settings.EnvelopeParams.{EnvelopeParams}
-use Rattle.lane.specs.declared.settings.StealRestart.{StealRestart}
-use Rattle.lane.specs.declared.settings.StealRestart.the-variants.{CurrentLevel, StartLevel}
-use Rattle.lane.specs.declared.settings.Trigger.{Trigger}
-use Rattle.lane.specs.declared.settings.Trigger.the-variants.{New, Retrigger, Legato}
+use Rattle.settings.specs.declared.settings.EnvelopeParams.{EnvelopeParams}
+use Rattle.settings.specs.declared.settings.StealRestart.{StealRestart}
+use Rattle.settings.specs.declared.settings.StealRestart.the-variants.{CurrentLevel, StartLevel}
+use Rattle.settings.specs.declared.settings.Trigger.{Trigger}
+use Rattle.settings.specs.declared.settings.Trigger.the-variants.{New, Retrigger, Legato}
 use Rattle.events.specs.declared.Event.{Event}
 use Rattle.events.specs.declared.Reading.{Reading}
 

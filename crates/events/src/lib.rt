@@ -3,23 +3,16 @@ ghost use mathlib.Core.Path.{_≡_};
 ghost use Prim.Native.Nat.{_+_, _≤_, _<_, _^_};
 ghost use lib.ListN.{length};
 ghost use Rattle.events.specs.Format as Format;
-use lane::EnvelopeParams;
-use lane::StealRestart;
-use lane::Trigger;
+use settings::CUT_SHORT;
+use settings::EnvelopeParams;
+use settings::MISPLACED_OPEN;
+use settings::StealRestart;
+use settings::Trigger;
+use settings::UNKNOWN_TAG;
+use settings::UNNAMED_CODE;
+use settings::WRONG_LENGTH;
 use timing::TimeUnit;
 use timing::Timing;
-
-// What the player refuses beside the bank's own refusals: document 01, "No's, by call".
-// A record's head or body that doesn't fit in the bytes.
-pub const CUT_SHORT: u32 = 6;
-
-pub const UNKNOWN_TAG: u32 = 7;
-
-pub const WRONG_LENGTH: u32 = 8;
-// A first record that is no open, or an open that isn't first.
-pub const MISPLACED_OPEN: u32 = 9;
-
-pub const UNNAMED_CODE: u32 = 10;
 
 // What a record says. Timing and settings come as their numbers.
 pub enum Event {

@@ -1,7 +1,7 @@
 -- The note that C asks for by plain numbers.
 use lib.Ieee.{Float}
-use Rattle.lane.specs.declared.settings.EnvelopeParams.{EnvelopeParams}
-use Rattle.lane.specs.Settings.{amp}
+use Rattle.settings.specs.declared.settings.EnvelopeParams.{EnvelopeParams}
+use Rattle.settings.specs.Settings.{amp}
 
 -- AMP with another attack, decay and sustain.
 abbrev pub settings : Float → Float → Float → EnvelopeParams

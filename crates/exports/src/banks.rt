@@ -3,8 +3,8 @@ ghost use mathlib.Core.Path.{_≡_};
 ghost use Rattle.exports.specs.Note as Note;
 ghost use Rattle.exports.specs.Take as Take;
 use bank::EnvelopeBank;
-use lane::EnvelopeParams;
-use lane::Trigger;
+use settings::EnvelopeParams;
+use settings::Trigger;
 use timing::Timing;
 
 // AMP with another attack, decay and sustain.

@@ -12,13 +12,13 @@ ghost use Rattle.numbers.specs.Limits as Limits;
 ghost use Rattle.numbers.specs.StandIns as StandIns;
 ghost use Rattle.timing.specs.Samples as Samples;
 ghost use Rattle.timing.specs.Clock as Timings;
-ghost use Rattle.lane.specs.declared.settings.Trigger.the-variants.{New};
+ghost use Rattle.settings.specs.declared.settings.Trigger.the-variants.{New};
 ghost use Rattle.envelope.specs.Envelopes as Envelopes;
 ghost use Rattle.exports.specs.Clock as Clock;
 ghost use Rattle.exports.specs.Note as Note;
 use envelope::Envelope;
-use lane::EnvelopeParams;
-use lane::Trigger;
+use settings::EnvelopeParams;
+use settings::Trigger;
 use timing::TimeUnit;
 use timing::Timing;
 

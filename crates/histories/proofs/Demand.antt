@@ -5,8 +5,8 @@ use mathlib.Core.List.{List, [], _∷_, _++_}
 use Prim.Native.Nat.{ℕ, zero, suc, _<_}
 use native.Mathlib.Omega.{arith}
 use borrow.Author.Tests.{lt-ltb, eq-eqb}
-use Rattle.lane.specs.declared.settings.Trigger.{Trigger}
-use Rattle.lane.specs.declared.settings.Trigger.the-variants.{New}
+use Rattle.settings.specs.declared.settings.Trigger.{Trigger}
+use Rattle.settings.specs.declared.settings.Trigger.the-variants.{New}
 use Rattle.envelope.specs.Envelopes as Envelopes
 use Rattle.bank.specs.declared.banks.EnvelopeBank.{EnvelopeBank}
 use Rattle.bank.specs.Calls.{Opening, Call, Known, ifAccepted, openingRefusal, refusal}

@@ -9,9 +9,9 @@ use lib.ListN.{replicate}
 use lib.Ieee.{lt, ofBits}
 use Rattle.numbers.specs.Constants as Constants
 use Rattle.timing.specs.Clock as Clock
-use Rattle.lane.specs.Settings.{amp}
-use Rattle.lane.specs.Refusals as Refusals
-use Rattle.lane.specs.Refusals.{timeOver, rateOver}
+use Rattle.settings.specs.Settings.{amp}
+use Rattle.settings.specs.Refusals as Refusals
+use Rattle.settings.specs.Refusals.{timeOver, rateOver}
 use Rattle.lane.specs.Readings as Readings
 use Rattle.envelope.specs.declared.envelopes.Envelope.{Envelope}
 use Rattle.envelope.specs.Envelopes as Envelopes

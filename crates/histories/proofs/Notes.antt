@@ -5,10 +5,10 @@ use mathlib.Core.List.{List, [], _∷_, _++_}
 use Prim.Native.Nat.{ℕ, zero, suc}
 use lib.ListN.{replicate}
 use Rattle.timing.specs.declared.Timing.{Timing}
-use Rattle.lane.specs.declared.settings.EnvelopeParams.{EnvelopeParams}
-use Rattle.lane.specs.declared.settings.Trigger.{Trigger}
-use Rattle.lane.specs.declared.settings.Trigger.the-variants.{New}
-use Rattle.lane.specs.declared.stages.Stage.{Stage}
+use Rattle.settings.specs.declared.settings.EnvelopeParams.{EnvelopeParams}
+use Rattle.settings.specs.declared.settings.Trigger.{Trigger}
+use Rattle.settings.specs.declared.settings.Trigger.the-variants.{New}
+use Rattle.settings.specs.declared.stages.Stage.{Stage}
 use Rattle.lane.specs.Planning as Planning
 use Rattle.lane.specs.Voices as Voices
 use Rattle.lane.specs.Voices.{leavesAlone, noteLevel}

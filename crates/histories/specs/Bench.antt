@@ -11,7 +11,7 @@ use Rattle.timing.specs.declared.TimeUnit.the-variants.{Milliseconds, Tempo}
 use Rattle.timing.specs.Clock as Clock
 use Rattle.timing.specs.Clock.{withTempo, withScale}
 use Rattle.timing.specs.Samples.{samples}
-use Rattle.lane.specs.declared.stages.Stage.the-variants.{Attack, Decay, Sustain}
+use Rattle.settings.specs.declared.stages.Stage.the-variants.{Attack, Decay, Sustain}
 use Rattle.lane.specs.Planning.{new, spec, joinAttack, advance}
 use Rattle.lane.specs.Readings.{rest}
 use Rattle.lane.specs.Bench.{clock, settings, long, decaying, replanned, threeEighths}

@@ -11,12 +11,12 @@ use lib.Ieee.{Float, nan}
 use Rattle.numbers.specs.Constants as Constants
 use Rattle.timing.specs.declared.Timing.{Timing}
 use Rattle.timing.specs.Samples.{samples}
-use Rattle.lane.specs.declared.settings.EnvelopeParams.{EnvelopeParams}
-use Rattle.lane.specs.declared.settings.Trigger.{Trigger}
-use Rattle.lane.specs.declared.settings.Trigger.the-variants.{New}
-use Rattle.lane.specs.declared.stages.Stage.{Stage}
-use Rattle.lane.specs.declared.stages.Stage.the-variants.{Attack, Sustain}
-use Rattle.lane.specs.Stages.{leadsUp}
+use Rattle.settings.specs.declared.settings.EnvelopeParams.{EnvelopeParams}
+use Rattle.settings.specs.declared.settings.Trigger.{Trigger}
+use Rattle.settings.specs.declared.settings.Trigger.the-variants.{New}
+use Rattle.settings.specs.declared.stages.Stage.{Stage}
+use Rattle.settings.specs.declared.stages.Stage.the-variants.{Attack, Sustain}
+use Rattle.settings.specs.Stages.{leadsUp}
 use Rattle.lane.specs.Planning.{spec, joinAttack}
 use Rattle.lane.specs.Voices.{leavesAlone, noteLevel}
 use Rattle.lane.specs.Schedule.{scheduled}

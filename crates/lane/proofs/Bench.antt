@@ -10,7 +10,7 @@ use Rattle.timing.specs.Clock as Clock
 use Rattle.timing.specs.Samples.{seconds, product, samples}
 use Rattle.curve.specs.Segments.{level, nextU}
 use Rattle.curve.specs.Curves.{bend, progress, timeAt, at, isStraight, straight, bent, segment}
-use Rattle.lane.specs.declared.stages.Stage.the-variants.{Attack, Decay, Sustain}
+use Rattle.settings.specs.declared.stages.Stage.the-variants.{Attack, Decay, Sustain}
 use Rattle.lane.specs.Planning.{new, spec, same, join, joinAttack, startSegment, find, findFrom, hold, begin, settle, enter, moved, advance}
 use Rattle.lane.specs.Voices.{leavesAlone, noteLevel, trigger, elapsed, replan, withParams, setParams, stepped, frame}
 use Rattle.lane.specs.Readings.{rest}

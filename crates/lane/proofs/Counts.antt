@@ -9,10 +9,10 @@ use Rattle.timing.specs.declared.Timing.{Timing}
 use Rattle.timing.specs.declared.TimeUnit.{TimeUnit}
 use Rattle.timing.specs.Samples.{samples, product, over}
 use Rattle.timing.proofs.Counts.{samples-le}
-use Rattle.lane.specs.declared.settings.EnvelopeParams.{EnvelopeParams}
-use Rattle.lane.specs.declared.stages.Stage.{Stage}
-use Rattle.lane.specs.declared.stages.Stage.the-variants.{Idle, Delay, Attack, Hold, Decay, Sustain, Release}
-use Rattle.lane.specs.Refusals.{timeOver, rateOver}
+use Rattle.settings.specs.declared.settings.EnvelopeParams.{EnvelopeParams}
+use Rattle.settings.specs.declared.stages.Stage.{Stage}
+use Rattle.settings.specs.declared.stages.Stage.the-variants.{Idle, Delay, Attack, Hold, Decay, Sustain, Release}
+use Rattle.settings.specs.Refusals.{timeOver, rateOver}
 use Rattle.lane.specs.Planning.{spec}
 
 -- The largest u64, at which the definitions hold a sum.

@@ -7,14 +7,14 @@ use borrow.Author.Tests.{ltb-true, ltb-false}
 use lib.Dec.{ltb}
 use lib.Ieee.{Float}
 use Rattle.timing.specs.declared.Timing.{Timing}
-use Rattle.lane.specs.declared.settings.EnvelopeParams.{EnvelopeParams}
-use Rattle.lane.specs.declared.stages.Stage.{Stage}
-use Rattle.lane.specs.declared.stages.Stage.the-variants.{Sustain}
+use Rattle.settings.specs.declared.settings.EnvelopeParams.{EnvelopeParams}
+use Rattle.settings.specs.declared.stages.Stage.{Stage}
+use Rattle.settings.specs.declared.stages.Stage.the-variants.{Sustain}
 use Rattle.lane.specs.declared.lanes.Spec.{Spec}
 use Rattle.lane.specs.declared.lanes.Joined.{Joined}
 use Rattle.lane.specs.declared.lanes.Lane.{Lane}
 use Rattle.lane.specs.declared.lanes.Voice.{Voice}
-use Rattle.lane.specs.Stages.{next, holds}
+use Rattle.settings.specs.Stages.{next, holds}
 use Rattle.lane.specs.Planning.{spec, join, startSegment, findFrom, find, hold, begin, settle, enter, moved}
 use Rattle.lane.specs.Voices.{frames}
 use Rattle.lane.specs.Readings.{rest, lasts}

@@ -5,10 +5,10 @@ use Prim.Native.Nat.{suc, _+_, _≤_, _<_}
 use borrow.Author.Tests.{lt-ltb, le-ltb}
 use lib.Ieee.{Float}
 use Rattle.timing.specs.declared.Timing.{Timing}
-use Rattle.lane.specs.declared.settings.EnvelopeParams.{EnvelopeParams}
-use Rattle.lane.specs.declared.stages.Stage.{Stage}
-use Rattle.lane.specs.declared.stages.Stage.the-variants.{Idle, Delay, Attack, Hold, Decay, Sustain, Release}
-use Rattle.lane.specs.Stages.{next, holds, timedStages}
+use Rattle.settings.specs.declared.settings.EnvelopeParams.{EnvelopeParams}
+use Rattle.settings.specs.declared.stages.Stage.{Stage}
+use Rattle.settings.specs.declared.stages.Stage.the-variants.{Idle, Delay, Attack, Hold, Decay, Sustain, Release}
+use Rattle.settings.specs.Stages.{next, holds, timedStages}
 use Rattle.lane.specs.Planning.{spec, join, find, findFrom}
 use Rattle.lane.specs.Readings.{lasts, lastFrom}
 

@@ -12,12 +12,12 @@ use lib.Ieee.{Float}
 use Rattle.numbers.specs.Counts.{held}
 use Rattle.timing.specs.declared.Timing.{Timing}
 use Rattle.timing.specs.Samples.{samples}
-use Rattle.lane.specs.declared.settings.EnvelopeParams.{EnvelopeParams}
-use Rattle.lane.specs.declared.settings.Trigger.{Trigger}
-use Rattle.lane.specs.declared.stages.Stage.{Stage}
-use Rattle.lane.specs.declared.stages.Stage.the-variants.{Idle, Delay, Attack, Hold, Decay, Sustain, Release}
+use Rattle.settings.specs.declared.settings.EnvelopeParams.{EnvelopeParams}
+use Rattle.settings.specs.declared.settings.Trigger.{Trigger}
+use Rattle.settings.specs.declared.stages.Stage.{Stage}
+use Rattle.settings.specs.declared.stages.Stage.the-variants.{Idle, Delay, Attack, Hold, Decay, Sustain, Release}
 use Rattle.lane.specs.declared.lanes.Voice.{Voice}
-use Rattle.lane.specs.Stages.{next, holds, timedStages, leadsUp}
+use Rattle.settings.specs.Stages.{next, holds, timedStages, leadsUp}
 use Rattle.lane.specs.Planning.{spec}
 use Rattle.lane.specs.Voices.{leavesAlone, noteLevel, trigger, frames}
 use Rattle.lane.specs.Readings.{rest, lasts, lastFrom, lead}

@@ -9,12 +9,12 @@ use lib.Dec.{ltb}
 use lib.Ieee.{Float}
 use Rattle.timing.specs.declared.Timing.{Timing}
 use Rattle.timing.specs.Samples.{samples}
-use Rattle.lane.specs.declared.settings.EnvelopeParams.{EnvelopeParams}
-use Rattle.lane.specs.declared.settings.Trigger.{Trigger}
-use Rattle.lane.specs.declared.stages.Stage.{Stage}
-use Rattle.lane.specs.declared.stages.Stage.the-variants.{Delay, Attack, Hold, Decay, Sustain}
+use Rattle.settings.specs.declared.settings.EnvelopeParams.{EnvelopeParams}
+use Rattle.settings.specs.declared.settings.Trigger.{Trigger}
+use Rattle.settings.specs.declared.stages.Stage.{Stage}
+use Rattle.settings.specs.declared.stages.Stage.the-variants.{Delay, Attack, Hold, Decay, Sustain}
 use Rattle.lane.specs.declared.lanes.Voice.{Voice}
-use Rattle.lane.specs.Stages.{next, holds}
+use Rattle.settings.specs.Stages.{next, holds}
 use Rattle.lane.specs.Planning.{spec, join, joinAttack}
 use Rattle.lane.specs.Voices.{leavesAlone, noteLevel, trigger, frames}
 use Rattle.lane.specs.Readings.{lasts}

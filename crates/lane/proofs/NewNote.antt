@@ -19,8 +19,8 @@ use Rattle.numbers.proofs.Rounding.{zero-rounds}
 use Rattle.timing.specs.declared.Timing.{Timing}
 use Rattle.curve.specs.Curves.{bend, timeAt}
 use Rattle.curve.proofs.Start.{time-at-zero}
-use Rattle.lane.specs.declared.settings.EnvelopeParams.{EnvelopeParams}
-use Rattle.lane.specs.declared.stages.Stage.the-variants.{Attack}
+use Rattle.settings.specs.declared.settings.EnvelopeParams.{EnvelopeParams}
+use Rattle.settings.specs.declared.stages.Stage.the-variants.{Attack}
 use Rattle.lane.specs.declared.lanes.Joined.{Joined}
 use Rattle.lane.specs.Planning.{spec, joinAttack}
 use Rattle.lane.proofs.Counts.{largest, counted}

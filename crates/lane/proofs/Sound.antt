@@ -9,15 +9,15 @@ use lib.Ieee.{Float}
 use Rattle.numbers.specs.Constants as Constants
 use Rattle.timing.specs.declared.Timing.{Timing}
 use Rattle.curve.specs.Segments.{level, untimed}
-use Rattle.lane.specs.declared.settings.EnvelopeParams.{EnvelopeParams}
-use Rattle.lane.specs.declared.settings.Trigger.{Trigger}
-use Rattle.lane.specs.declared.stages.Stage.{Stage}
-use Rattle.lane.specs.declared.stages.Stage.the-variants.{Idle, Delay, Attack, Hold, Decay, Sustain, Release}
+use Rattle.settings.specs.declared.settings.EnvelopeParams.{EnvelopeParams}
+use Rattle.settings.specs.declared.settings.Trigger.{Trigger}
+use Rattle.settings.specs.declared.stages.Stage.{Stage}
+use Rattle.settings.specs.declared.stages.Stage.the-variants.{Idle, Delay, Attack, Hold, Decay, Sustain, Release}
 use Rattle.lane.specs.declared.lanes.Spec.{Spec}
 use Rattle.lane.specs.declared.lanes.Joined.{Joined}
 use Rattle.lane.specs.declared.lanes.Lane.{Lane}
 use Rattle.lane.specs.declared.lanes.Voice.{Voice}
-use Rattle.lane.specs.Stages.{next, holds, isReleased}
+use Rattle.settings.specs.Stages.{next, holds, isReleased}
 use Rattle.lane.specs.Planning.{new, spec, same, startSegment, findFrom, find, hold, begin, settle, enter, moved, advance}
 use Rattle.lane.specs.Voices.{leavesAlone, noteLevel, trigger, release, reset, elapsed, replan, withParams, setParams, stepped, frame, frames}
 use Rattle.lane.specs.Readings.{rest}

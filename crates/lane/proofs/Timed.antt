@@ -11,11 +11,11 @@ use Rattle.timing.specs.declared.Timing.{Timing}
 use Rattle.curve.specs.declared.segments.Segment.{Segment}
 use Rattle.curve.specs.Segments.{untimed}
 use Rattle.curve.specs.Curves.{segment, straight, bent}
-use Rattle.lane.specs.declared.stages.Stage.{Stage}
+use Rattle.settings.specs.declared.stages.Stage.{Stage}
 use Rattle.lane.specs.declared.lanes.Spec.{Spec}
 use Rattle.lane.specs.declared.lanes.Lane.{Lane}
 use Rattle.lane.specs.declared.lanes.Voice.{Voice}
-use Rattle.lane.specs.Stages.{next}
+use Rattle.settings.specs.Stages.{next}
 use Rattle.lane.specs.Planning.{startSegment, begin, enter, moved, advance}
 use Rattle.lane.specs.Voices.{elapsed, stepped, frame, frames}
 use Rattle.lane.specs.Readings.{rest}

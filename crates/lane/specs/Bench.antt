@@ -6,9 +6,9 @@ use Rattle.numbers.specs.Constants.{zero, half}
 use Rattle.timing.specs.declared.Timing.{Timing}
 use Rattle.timing.specs.declared.TimeUnit.the-variants.{Milliseconds}
 use Rattle.timing.specs.Clock as Clock
-use Rattle.lane.specs.declared.settings.EnvelopeParams.{EnvelopeParams}
-use Rattle.lane.specs.declared.settings.StealRestart.the-variants.{CurrentLevel}
-use Rattle.lane.specs.declared.settings.Trigger.the-variants.{New}
+use Rattle.settings.specs.declared.settings.EnvelopeParams.{EnvelopeParams}
+use Rattle.settings.specs.declared.settings.StealRestart.the-variants.{CurrentLevel}
+use Rattle.settings.specs.declared.settings.Trigger.the-variants.{New}
 use Rattle.lane.specs.declared.lanes.Voice.{Voice}
 use Rattle.lane.specs.Planning.{new}
 use Rattle.lane.specs.Voices.{trigger, setParams, frames}

@@ -1,7 +1,4 @@
--- Document 01, 'One voice': lane.rs, and mod.rs's settings and stages.
-pub mod Settings
-pub mod Refusals
-pub mod Stages
+-- Document 01, 'One voice': lane.rs.
 pub mod Planning
 pub mod Voices
 pub mod Readings

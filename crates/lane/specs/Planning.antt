@@ -14,15 +14,15 @@ use Rattle.timing.specs.declared.Timing.{Timing}
 use Rattle.timing.specs.Samples.{samples}
 use Rattle.curve.specs.Segments.{constant, untimed}
 use Rattle.curve.specs.Curves.{bend, timeAt, segment, maxSegment}
-use Rattle.lane.specs.declared.settings.EnvelopeParams.{EnvelopeParams}
-use Rattle.lane.specs.declared.stages.Stage.{Stage}
-use Rattle.lane.specs.declared.stages.Stage.the-variants.{Idle, Delay, Attack, Hold, Decay, Sustain, Release}
+use Rattle.settings.specs.declared.settings.EnvelopeParams.{EnvelopeParams}
+use Rattle.settings.specs.declared.stages.Stage.{Stage}
+use Rattle.settings.specs.declared.stages.Stage.the-variants.{Idle, Delay, Attack, Hold, Decay, Sustain, Release}
 use Rattle.lane.specs.declared.lanes.Spec.{Spec}
 use Rattle.lane.specs.declared.lanes.Lane.{Lane}
 use Rattle.lane.specs.declared.lanes.Voice.{Voice}
 use Rattle.lane.specs.declared.lanes.Joined.{Joined}
 use Rattle.lane.specs.declared.lanes.Entered.{Entered}
-use Rattle.lane.specs.Stages.{next, holds, timedStages}
+use Rattle.settings.specs.Stages.{next, holds, timedStages}
 
 -- Lane::new: an idle envelope with these settings, and the segment that it draws.
 unfoldable pub new : EnvelopeParams → Voice

@@ -6,10 +6,10 @@ use Rattle.numbers.specs.Constants as Constants
 use Rattle.numbers.specs.Counts.{held}
 use Rattle.timing.specs.declared.Timing.{Timing}
 use Rattle.timing.specs.Samples.{samples}
-use Rattle.lane.specs.declared.settings.EnvelopeParams.{EnvelopeParams}
-use Rattle.lane.specs.declared.stages.Stage.{Stage}
+use Rattle.settings.specs.declared.settings.EnvelopeParams.{EnvelopeParams}
+use Rattle.settings.specs.declared.stages.Stage.{Stage}
 use Rattle.lane.specs.declared.lanes.Voice.{Voice}
-use Rattle.lane.specs.Stages.{next, timedStages, isIdle, leadsUp}
+use Rattle.settings.specs.Stages.{next, timedStages, isIdle, leadsUp}
 use Rattle.lane.specs.Planning.{spec, join}
 
 -- 0 when Idle, else the release count.

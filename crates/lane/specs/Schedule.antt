@@ -2,8 +2,8 @@
 use Prim.Native.Nat.{ℕ, _+_}
 use mathlib.Core.Bool.{cond}
 use lib.Dec.{ltb}
-use Rattle.lane.specs.declared.stages.Stage.{Stage}
-use Rattle.lane.specs.declared.stages.Stage.the-variants.{Delay, Attack, Hold, Decay, Sustain}
+use Rattle.settings.specs.declared.stages.Stage.{Stage}
+use Rattle.settings.specs.declared.stages.Stage.the-variants.{Delay, Attack, Hold, Decay, Sustain}
 
 -- The stage k frames after such a trigger, whose delay, attack, hold and decay last d, a, h and c samples.
 unfoldable pub scheduled : ℕ → ℕ → ℕ → ℕ → ℕ → Stage

@@ -9,15 +9,15 @@ use Rattle.numbers.specs.Counts.{held}
 use Rattle.timing.specs.declared.Timing.{Timing}
 use Rattle.curve.specs.declared.segments.Segment.{Segment}
 use Rattle.curve.specs.Segments.{level, nextU, untimed}
-use Rattle.lane.specs.declared.settings.EnvelopeParams.{EnvelopeParams}
-use Rattle.lane.specs.declared.settings.StealRestart.{StealRestart}
-use Rattle.lane.specs.declared.settings.StealRestart.the-variants.{CurrentLevel, StartLevel}
-use Rattle.lane.specs.declared.settings.Trigger.{Trigger}
-use Rattle.lane.specs.declared.settings.Trigger.the-variants.{New, Retrigger, Legato}
-use Rattle.lane.specs.declared.stages.Stage.the-variants.{Idle, Delay, Release}
+use Rattle.settings.specs.declared.settings.EnvelopeParams.{EnvelopeParams}
+use Rattle.settings.specs.declared.settings.StealRestart.{StealRestart}
+use Rattle.settings.specs.declared.settings.StealRestart.the-variants.{CurrentLevel, StartLevel}
+use Rattle.settings.specs.declared.settings.Trigger.{Trigger}
+use Rattle.settings.specs.declared.settings.Trigger.the-variants.{New, Retrigger, Legato}
+use Rattle.settings.specs.declared.stages.Stage.the-variants.{Idle, Delay, Release}
 use Rattle.lane.specs.declared.lanes.Lane.{Lane}
 use Rattle.lane.specs.declared.lanes.Voice.{Voice}
-use Rattle.lane.specs.Stages.{next, holds, isIdle, isReleased}
+use Rattle.settings.specs.Stages.{next, holds, isIdle, isReleased}
 use Rattle.lane.specs.Planning.{spec, same, hold, begin, enter, advance}
 
 -- Whether a trigger leaves the running envelope alone: a legato note on a sounding voice that is not legato-inverted.

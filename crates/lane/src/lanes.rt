@@ -4,11 +4,11 @@ ghost use mathlib.Core.Path.{_≡_};
 ghost use Prim.Native.Nat.{min};
 ghost use Rattle.curve.specs.Curves as Curves;
 ghost use Rattle.lane.specs.Planning as Planning;
-use crate::settings::EnvelopeParams;
-use crate::stages::Stage;
 use curve::MAX_SEGMENT;
 use curve::Segment;
 use curve::UNTIMED;
+use settings::EnvelopeParams;
+use settings::Stage;
 use timing::Timing;
 
 // A stage's length, target and bend, as the settings set them. A change in them is what makes a

@@ -3,17 +3,17 @@ ghost use mathlib.Core.Path.{_≡_};
 ghost use Prim.Native.Nat.{_+_, _-_};
 ghost use Rattle.numbers.specs.Counts.{held};
 ghost use Rattle.lane.specs.Readings as Readings;
-ghost use Rattle.lane.specs.Stages as Stages;
+ghost use Rattle.settings.specs.Stages as Stages;
 ghost use Rattle.lane.specs.Voices as Voices;
 use crate::lanes::Voice;
 use crate::lanes::join;
 use crate::lanes::same_spec;
 use crate::lanes::spec_of;
-use crate::settings::EnvelopeParams;
-use crate::settings::StealRestart;
-use crate::settings::Trigger;
-use crate::stages::Stage;
 use curve::UNTIMED;
+use settings::EnvelopeParams;
+use settings::Stage;
+use settings::StealRestart;
+use settings::Trigger;
 use timing::Timing;
 
 // Samples of the present stage that have passed.

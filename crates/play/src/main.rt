@@ -3,7 +3,7 @@
 // bits in eight hexadecimal digits. A list that is refused: its refusal's number and place.
 ghost use Prim.Native.Nat.{_+_, _*_, _≤_, _<_};
 ghost use lib.ListN.{length};
-use lane::ACCEPTED;
+use settings::ACCEPTED;
 
 fn wide(x: u8) -> u64
     ensures { λ r. ⌜ r < 256 ⌝ }

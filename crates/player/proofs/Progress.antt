@@ -12,7 +12,7 @@ use lib.ListN.{length}
 use lib.Seq.{sets, length-sets}
 use Rattle.numbers.specs.Constants as Constants
 use Rattle.timing.specs.Clock as Clock
-use Rattle.lane.specs.Settings.{amp}
+use Rattle.settings.specs.Settings.{amp}
 use Rattle.bank.specs.declared.banks.EnvelopeBank.{EnvelopeBank}
 use Rattle.bank.specs.Calls.{opening, Call, strideOf, ifAccepted, openingRefusal, opened}
 use Rattle.bank.specs.Banks.{size, known, frames, rows, idle, new, answer}

@@ -7,7 +7,7 @@ use lib.Seq.{sets}
 use lib.Ieee.{Float, binary32, toBits}
 use Rattle.numbers.specs.Constants as Constants
 use Rattle.timing.specs.Clock as Clock
-use Rattle.lane.specs.Settings.{amp}
+use Rattle.settings.specs.Settings.{amp}
 use Rattle.bank.specs.declared.banks.EnvelopeBank.{EnvelopeBank}
 use Rattle.bank.specs.Calls.{opening, ifAccepted}
 use Rattle.bank.specs.Banks as Banks

@@ -4,7 +4,7 @@ use mathlib.Core.List.{List, [], _∷_, _++_}
 use lib.Ieee.{Float}
 use Rattle.numbers.specs.Constants as Constants
 use Rattle.timing.specs.Clock as Clock
-use Rattle.lane.specs.Settings.{amp}
+use Rattle.settings.specs.Settings.{amp}
 use Rattle.bank.specs.Calls.{Opening, opening, Call, Known, learned}
 use Rattle.bank.specs.Replies.{Reply}
 use Rattle.histories.specs.Demand.{firstReading, dues}

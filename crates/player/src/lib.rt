@@ -5,7 +5,6 @@ mod turns;
 ghost use mathlib.Core.Path.{_≡_};
 ghost use Prim.Native.Nat.{_+_, _*_, _≤_, min};
 ghost use lib.IntN.{pos, negℤ};
-ghost use lib.Ieee.{binary32, toBits};
 ghost use lib.ListN.{length, take};
 ghost use lib.Seq.{sets};
 ghost use Rattle.checking.specs.Checks as Checks;
@@ -14,9 +13,9 @@ use crate::turns::Turn;
 use bank::EnvelopeBank;
 use curve::Segment;
 use events::Reading;
-use lane::ACCEPTED;
-use lane::EnvelopeParams;
 use lane::Voice;
+use settings::ACCEPTED;
+use settings::EnvelopeParams;
 use timing::Timing;
 
 // The levels of a block: whole frames at each of the strides 16, 32, 48 and 64.

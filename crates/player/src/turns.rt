@@ -2,8 +2,8 @@
 ghost use mathlib.Core.Path.{_≡_};
 ghost use Rattle.player.specs.Parts as Parts;
 use events::Event;
-use lane::EnvelopeParams;
 use lane::Voice;
+use settings::EnvelopeParams;
 use timing::Timing;
 
 // What is done for an event.

@@ -6,7 +6,7 @@ use crate::calls;
 use crate::replies;
 use bank::Answer;
 use bank::EnvelopeBank;
-use lane::ACCEPTED;
+use settings::ACCEPTED;
 
 // The answer of a call that writes no levels and reads nothing.
 fn called(b: EnvelopeBank, call: &[u8]) -> Answer

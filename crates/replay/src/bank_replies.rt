@@ -10,10 +10,10 @@ use bank::IdleReading;
 use bank::LevelReading;
 use bank::ParamsReading;
 use bank::StageReading;
-use lane::ACCEPTED;
-use lane::EnvelopeParams;
-use lane::NO_SUCH_VOICE;
-use lane::Stage;
+use settings::ACCEPTED;
+use settings::EnvelopeParams;
+use settings::NO_SUCH_VOICE;
+use settings::Stage;
 
 fn params_refusal(x: ParamsReading) -> u32 {
     match x {

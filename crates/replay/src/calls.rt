@@ -3,10 +3,10 @@ ghost use Prim.Native.Nat.{_+_, _≤_, _<_, _^_};
 ghost use lib.ListN.{length};
 use envelope::Answer;
 use envelope::Envelope;
-use lane::ACCEPTED;
-use lane::EnvelopeParams;
-use lane::StealRestart;
-use lane::Trigger;
+use settings::ACCEPTED;
+use settings::EnvelopeParams;
+use settings::StealRestart;
+use settings::Trigger;
 use timing::TimeUnit;
 use timing::Timing;
 

@@ -24,7 +24,7 @@ ghost use Prim.Native.Nat.{_≤_};
 ghost use lib.ListN.{length};
 use bank::EnvelopeBank;
 use envelope::Envelope;
-use lane::EnvelopeParams;
+use settings::EnvelopeParams;
 use timing::Timing;
 
 // What the calls are made on.

@@ -3,9 +3,9 @@ ghost use mathlib.Core.Path.{_≡_};
 ghost use Prim.Native.Nat.{_+_, _*_, _≤_};
 ghost use lib.ListN.{length};
 use envelope::Envelope;
-use lane::EnvelopeParams;
-use lane::Stage;
-use lane::StealRestart;
+use settings::EnvelopeParams;
+use settings::Stage;
+use settings::StealRestart;
 use timing::TimeUnit;
 
 // Byte k of a word, from the lowest.

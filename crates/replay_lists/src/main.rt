@@ -4,7 +4,7 @@
 // A list: its length and the output's length in bytes, four bytes each, the lowest first; then its
 // bytes, at most 16,384. Its answer: the result and the place of the refusal, eight bytes each, then
 // the output, at most 65,536 bytes, in which byte i was i % 251 before the call.
-ghost use Prim.Native.Nat.{_+_, _≤_, _<_, _^_};
+ghost use Prim.Native.Nat.{_+_, _≤_, _<_};
 ghost use lib.ListN.{length};
 
 fn wide(x: u8) -> u64

@@ -3,7 +3,7 @@ use borrow.Author.Needs.{needs}
 use lib.Ieee.{ofBits}
 use lib.ListN.{length}
 use Rattle.timing.specs.declared.Timing.{Timing}
-use Rattle.lane.specs.declared.settings.Trigger.the-variants.{New}
+use Rattle.settings.specs.declared.settings.Trigger.the-variants.{New}
 use Rattle.envelope.specs.Envelopes as Envelopes
 use Rattle.envelope.specs.Envelopes.{trigger, levels}
 use Rattle.envelope.specs.declared.envelopes.Answer.{Answer}

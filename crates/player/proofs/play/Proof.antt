@@ -8,7 +8,7 @@ use mathlib.Core.List.{List}
 use lib.Ieee.{ofBits}
 use lib.ListN.{length, take}
 use Rattle.timing.specs.declared.Timing.{Timing}
-use Rattle.lane.specs.Settings.{amp}
+use Rattle.settings.specs.Settings.{amp}
 use Rattle.lane.specs.declared.lanes.Voice.{Voice}
 use Rattle.bank.specs.declared.banks.EnvelopeBank.{EnvelopeBank}
 use Rattle.bank.specs.declared.banks.Answer.{Answer}

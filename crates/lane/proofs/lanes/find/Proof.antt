@@ -2,7 +2,7 @@ use mathlib.Core.Path.{_≡_, refl, sym, _∙_}
 use native.Mathlib.Omega.{arith}
 use borrow.Author.Needs.{needs}
 use Rattle.lane.specs.Planning.{find}
-use Rattle.lane.specs.Stages.{timedStages}
+use Rattle.settings.specs.Stages.{timedStages}
 use Rattle.lane.proofs.Finding.{timed-next, find-holds, find-timed, find-skips}
 use Rattle.lane.proofs.lanes.find.Statement.{statement}
 use Rattle.lane.proofs.lanes.find.Tie as tie

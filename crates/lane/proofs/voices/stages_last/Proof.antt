@@ -5,7 +5,7 @@ use native.Mathlib.Omega.{arith}
 use borrow.Author.Needs.{needs}
 use Rattle.numbers.specs.Counts.{held}
 use Rattle.lane.specs.Readings.{lasts, lastFrom}
-use Rattle.lane.specs.Stages.{next, timedStages}
+use Rattle.settings.specs.Stages.{next, timedStages}
 use Rattle.lane.proofs.Finding.{not-true, not-false, timed-next, last-holds, last-timed}
 use Rattle.lane.proofs.voices.stages_last.Statement.{statement}
 use Rattle.lane.proofs.voices.stages_last.Tie as tie

@@ -3,7 +3,7 @@ use Prim.Native.Nat.{_<_}
 use native.Mathlib.Omega.{arith}
 use borrow.Author.Needs.{needs}
 use Rattle.lane.specs.declared.lanes.Voice.{Voice}
-use Rattle.lane.specs.Stages as Stages
+use Rattle.settings.specs.Stages as Stages
 use Rattle.bank.specs.Calls.{Query, queryRefusal}
 use Rattle.bank.specs.Banks.{size}
 use Rattle.bank.specs.Replies.{Reply, told, ofIdle}

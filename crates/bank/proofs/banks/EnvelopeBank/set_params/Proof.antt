@@ -3,7 +3,7 @@ use Prim.Native.Nat.{_+_}
 use native.Mathlib.Omega.{arith}
 use borrow.Author.Needs.{needs}
 use lib.Dec.{ltb}
-use Rattle.lane.specs.Refusals as Refusals
+use Rattle.settings.specs.Refusals as Refusals
 use Rattle.bank.specs.declared.calls.Change.the-variants.{Params}
 use Rattle.bank.specs.Calls.{Call, refusal}
 use Rattle.bank.specs.Banks.{voice, size, moved}

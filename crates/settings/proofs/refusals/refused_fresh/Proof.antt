@@ -4,9 +4,9 @@ use mathlib.Core.Logic.{_≢_}
 use Prim.Native.Nat.{ℕ}
 use native.Mathlib.Omega.{arith}
 use borrow.Author.Needs.{needs}
-use Rattle.lane.specs.Refusals.{fresh, timing, params, rateOver}
-use Rattle.lane.proofs.refusals.refused_fresh.Statement.{statement}
-use Rattle.lane.proofs.refusals.refused_fresh.Tie as tie
+use Rattle.settings.specs.Refusals.{fresh, timing, params, rateOver}
+use Rattle.settings.proofs.refusals.refused_fresh.Statement.{statement}
+use Rattle.settings.proofs.refusals.refused_fresh.Tie as tie
 
 some : (b : Bool) (n r : ℕ) → r ≡ cond b 4 0 → r ≢ 0 → r ≡ cond b 4 n
 some true n r e h = e

@@ -1,6 +1,6 @@
 // Where an envelope is.
 ghost use mathlib.Core.Path.{_≡_};
-ghost use Rattle.lane.specs.Stages as Stages;
+ghost use Rattle.settings.specs.Stages as Stages;
 
 // Idle holds the end level until a note, Delay the starting level, Hold full, Sustain its level
 // until the note ends; Attack rises to full, Decay falls to the sustain level, Release to the end
@@ -32,7 +32,7 @@ impl Stage {
     }
 
     // Whether it holds its level until something happens.
-    pub(crate) fn holds(self) -> bool
+    pub fn holds(self) -> bool
         ensures { λ r. ⌜ r ≡ Stages.holds self ⌝ }
     {
         match self {
@@ -62,7 +62,7 @@ impl Stage {
     }
 
     // Whether a release finds nothing left to do.
-    pub(crate) fn is_released(self) -> bool
+    pub fn is_released(self) -> bool
         ensures { λ r. ⌜ r ≡ Stages.isReleased self ⌝ }
     {
         match self {
@@ -77,7 +77,7 @@ impl Stage {
     }
 
     // Whether Sustain is still to come.
-    pub(crate) fn leads_up(self) -> bool
+    pub fn leads_up(self) -> bool
         ensures { λ r. ⌜ r ≡ Stages.leadsUp self ⌝ }
     {
         match self {

@@ -1,7 +1,7 @@
 use lib.Ieee.{ofBits}
-use Rattle.lane.specs.Refusals.{timing, rateOver}
-use Rattle.lane.proofs.refusals.refused_timing.Statement.{statement}
-use Rattle.lane.proofs.refusals.refused_timing.Tie as tie
+use Rattle.settings.specs.Refusals.{timing, rateOver}
+use Rattle.settings.proofs.refusals.refused_timing.Statement.{statement}
+use Rattle.settings.proofs.refusals.refused_timing.Tie as tie
 
 returns : tie.Need-returns
 unfolding timing rateOver ofBits

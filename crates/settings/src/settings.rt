@@ -1,6 +1,6 @@
 // An envelope's settings, and how a note reaches it, as mod.rs has them.
 ghost use mathlib.Core.Path.{_≡_};
-ghost use Rattle.lane.specs.Settings as Settings;
+ghost use Rattle.settings.specs.Settings as Settings;
 use timing::TimeUnit;
 
 // Where an envelope restarts when its voice, already sounding, takes a new note: from the level it

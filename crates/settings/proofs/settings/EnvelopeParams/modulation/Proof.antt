@@ -1,7 +1,7 @@
 use mathlib.Core.Path.{refl}
 use lib.Ieee.{ofBits}
-use Rattle.lane.proofs.settings.EnvelopeParams.modulation.Statement.{statement}
-use Rattle.lane.proofs.settings.EnvelopeParams.modulation.Tie as tie
+use Rattle.settings.proofs.settings.EnvelopeParams.modulation.Statement.{statement}
+use Rattle.settings.proofs.settings.EnvelopeParams.modulation.Tie as tie
 
 returns : tie.Need-returns
 unfolding ofBits

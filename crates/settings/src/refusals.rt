@@ -1,6 +1,6 @@
 // What is refused, and by which number: document 01, "No's, by call". 0 is accepted.
 ghost use mathlib.Core.Path.{_≡_};
-ghost use Rattle.lane.specs.Refusals as Refusals;
+ghost use Rattle.settings.specs.Refusals as Refusals;
 use crate::settings::EnvelopeParams;
 use timing::Timing;
 
@@ -15,6 +15,18 @@ pub const TIME_OVER: u32 = 3;
 pub const RATE_OVER: u32 = 4;
 // An output that is not whole frames.
 pub const NOT_WHOLE_FRAMES: u32 = 5;
+// A record of an event list whose head or body doesn't fit in the bytes.
+pub const CUT_SHORT: u32 = 6;
+
+pub const UNKNOWN_TAG: u32 = 7;
+
+pub const WRONG_LENGTH: u32 = 8;
+// A first record that is no open, or an open that isn't first.
+pub const MISPLACED_OPEN: u32 = 9;
+// A code byte without a name.
+pub const UNNAMED_CODE: u32 = 10;
+// An output that doesn't hold a list's frames.
+pub const OUTPUT_TOO_SHORT: u32 = 11;
 
 // In milliseconds or beats.
 pub const MAX_TIME: f32 = 1048576.0;

@@ -3,7 +3,7 @@ use Prim.Native.Nat.{ℕ}
 use mathlib.Core.Bool.{Bool, cond, _||_}
 use Rattle.timing.specs.declared.Timing.{Timing}
 use Rattle.timing.specs.Samples.{over}
-use Rattle.lane.specs.declared.settings.EnvelopeParams.{EnvelopeParams}
+use Rattle.settings.specs.declared.settings.EnvelopeParams.{EnvelopeParams}
 
 -- A time over its limit.
 unfoldable pub timeOver : EnvelopeParams → Bool

@@ -1,7 +1,7 @@
 use lib.Ieee.{ofBits}
-use Rattle.lane.specs.Refusals.{params, timeOver}
-use Rattle.lane.proofs.refusals.refused_params.Statement.{statement}
-use Rattle.lane.proofs.refusals.refused_params.Tie as tie
+use Rattle.settings.specs.Refusals.{params, timeOver}
+use Rattle.settings.proofs.refusals.refused_params.Statement.{statement}
+use Rattle.settings.proofs.refusals.refused_params.Tie as tie
 
 returns : tie.Need-returns
 unfolding params timeOver ofBits

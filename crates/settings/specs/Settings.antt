@@ -4,8 +4,8 @@ use lib.IntN as Int
 use lib.Ieee.{Float, fin, binary32, ofBits}
 use Rattle.numbers.specs.Constants.{zero, half, one}
 use Rattle.timing.specs.declared.TimeUnit.the-variants.{Milliseconds}
-use Rattle.lane.specs.declared.settings.EnvelopeParams.{EnvelopeParams}
-use Rattle.lane.specs.declared.settings.StealRestart.the-variants.{CurrentLevel, StartLevel}
+use Rattle.settings.specs.declared.settings.EnvelopeParams.{EnvelopeParams}
+use Rattle.settings.specs.declared.settings.StealRestart.the-variants.{CurrentLevel, StartLevel}
 
 -- 66.6 % as a binary32.
 abbrev pub curve66 : Float
