@@ -78,53 +78,23 @@ fn own_refusal(voices: usize, event: Event) -> u32
 fn voices_after(voices: usize, event: Event) -> usize
     ensures { λ r. ⌜ r ≡ Deeds.knownAfter (Deeds.knownOf voices) (Deeds.deed (Deeds.knownOf voices) event) .voices ⌝ }
 {
-    match event {
-        Event::Open {
-            voices,
-            timing: _,
-            params: _,
-        } => voices as usize,
-        Event::SetParams {
-            voice: _,
-            params: _,
-        } => voices,
-        Event::SetAllParams(_) => voices,
-        Event::SetTiming(_) => voices,
-        Event::Trigger {
-            voice: _,
-            trigger: _,
-        } => voices,
-        Event::Release(_) => voices,
-        Event::Reset(_) => voices,
-        Event::Join { voice: _, from: _ } => voices,
-        Event::Frames(_) => voices,
+    if let Event::Open {
+        voices,
+        timing: _,
+        params: _,
+    } = event {
+        return voices as usize;
     }
+    voices
 }
 
 fn frames_of(event: Event) -> u64
     ensures { λ r. ⌜ (r ≡ Deeds.framesOf event) × (r < 2 ^ 32) ⌝ }
 {
-    match event {
-        Event::Open {
-            voices: _,
-            timing: _,
-            params: _,
-        } => 0,
-        Event::SetParams {
-            voice: _,
-            params: _,
-        } => 0,
-        Event::SetAllParams(_) => 0,
-        Event::SetTiming(_) => 0,
-        Event::Trigger {
-            voice: _,
-            trigger: _,
-        } => 0,
-        Event::Release(_) => 0,
-        Event::Reset(_) => 0,
-        Event::Join { voice: _, from: _ } => 0,
-        Event::Frames(count) => count as u64,
+    if let Event::Frames(count) = event {
+        return count as u64;
     }
+    0
 }
 
 // One record more, that says this and ends before `next`.

@@ -1,32 +1,26 @@
-use mathlib.Core.Path.{refl}
-use Rattle.checking.specs.Deeds.{framesOf}
+use mathlib.Core.Path.{_≡_, refl}
+use mathlib.Core.List.{[], _∷_}
 use borrow.Author.Needs.{needs}
+use denote.Enum.Declared.{tagOf}
+use types.Run.{OneOf, miss}
+use Rattle.events.specs.declared.Event.{Event}
+use Rattle.events.proofs.Event.{the-type}
+use Rattle.checking.specs.Deeds.{framesOf}
 use Rattle.checking.proofs.frames_of.Statement.{statement}
 use Rattle.checking.proofs.frames_of.Tie as tie
 
-enum-told : tie.Need-enum-told
-enum-told c = search needs
-
-enum-told-2 : tie.Need-enum-told-2
-enum-told-2 c = search needs
-
-enum-told-3 : tie.Need-enum-told-3
-enum-told-3 c = search needs
-
-enum-told-4 : tie.Need-enum-told-4
-enum-told-4 c = search needs
-
-enum-told-5 : tie.Need-enum-told-5
-enum-told-5 c = search needs
-
-enum-told-6 : tie.Need-enum-told-6
-enum-told-6 c = search needs
-
-enum-told-7 : tie.Need-enum-told-7
-enum-told-7 c = search needs
-
-enum-told-8 : tie.Need-enum-told-8
-enum-told-8 c = search needs
+-- No other event asks for frames.
+others : (e : Event) → OneOf (0 ∷ 1 ∷ 2 ∷ 3 ∷ 4 ∷ 5 ∷ 6 ∷ 7 ∷ []) (tagOf the-type e) → 0 ≡ framesOf e
+unfolding framesOf
+others (Event.Open n t p) h = refl
+others (Event.SetParams v p) h = refl
+others (Event.SetAllParams p) h = refl
+others (Event.SetTiming t) h = refl
+others (Event.Trigger v x) h = refl
+others (Event.Release v) h = refl
+others (Event.Reset v) h = refl
+others (Event.Join v from) h = refl
+others (Event.Frames n) h = absurd (miss (0 ∷ 1 ∷ 2 ∷ 3 ∷ 4 ∷ 5 ∷ 6 ∷ 7 ∷ []) 8 tt h)
 
 enum-known-event : tie.Need-enum-known-event
 enum-known-event c = search needs
@@ -36,60 +30,10 @@ cast-result c = search needs
 
 returns : tie.Need-returns
 unfolding framesOf
-returns c = simp (c .enum-told .given .1) (refl, search needs)
+returns c = simp (c .before .event .given .1) (refl, search needs)
 
 returns-2 : tie.Need-returns-2
-unfolding framesOf
-returns-2 c = simp (c .enum-told2 .given .1) (refl, search needs)
-
-returns-3 : tie.Need-returns-3
-unfolding framesOf
-returns-3 c = simp (c .enum-told3 .given .1) (refl, search needs)
-
-returns-4 : tie.Need-returns-4
-unfolding framesOf
-returns-4 c = simp (c .enum-told4 .given .1) (refl, search needs)
-
-returns-5 : tie.Need-returns-5
-unfolding framesOf
-returns-5 c = simp (c .enum-told5 .given .1) (refl, search needs)
-
-returns-6 : tie.Need-returns-6
-unfolding framesOf
-returns-6 c = simp (c .enum-told6 .given .1) (refl, search needs)
-
-returns-7 : tie.Need-returns-7
-unfolding framesOf
-returns-7 c = simp (c .enum-told7 .given .1) (refl, search needs)
-
-returns-8 : tie.Need-returns-8
-unfolding framesOf
-returns-8 c = simp (c .enum-told8 .given .1) (refl, search needs)
-
-returns-9 : tie.Need-returns-9
-unfolding framesOf
-returns-9 c = simp (c .before .event .given .1) (refl, search needs)
+returns-2 c = (others (c .before .args .event) (c .match .keys2), search needs)
 
 pub frames-of-spec : {M : Type 1} → statement M
-frames-of-spec =
-    tie.close
-    (tie.spec
-    enum-told
-    enum-told-2
-    enum-told-3
-    enum-told-4
-    enum-told-5
-    enum-told-6
-    enum-told-7
-    enum-told-8
-    enum-known-event
-    cast-result
-    returns
-    returns-2
-    returns-3
-    returns-4
-    returns-5
-    returns-6
-    returns-7
-    returns-8
-    returns-9)
+frames-of-spec = tie.close (tie.spec enum-known-event cast-result returns returns-2)

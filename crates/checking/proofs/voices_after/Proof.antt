@@ -1,7 +1,27 @@
-use Rattle.checking.specs.Deeds.{deed, knownAfter}
+use mathlib.Core.Path.{_≡_, refl}
+use mathlib.Core.List.{[], _∷_}
 use borrow.Author.Needs.{needs}
+use denote.Enum.Declared.{tagOf}
+use types.Run.{OneOf, miss}
+use Rattle.bank.specs.Calls.{Known}
+use Rattle.events.specs.declared.Event.{Event}
+use Rattle.events.proofs.Event.{the-type}
+use Rattle.checking.specs.Deeds.{deed, knownOf, knownAfter}
 use Rattle.checking.proofs.voices_after.Statement.{statement}
 use Rattle.checking.proofs.voices_after.Tie as tie
+
+-- No other event changes the voices' number.
+others : (k : Known) (e : Event) → OneOf (1 ∷ 2 ∷ 3 ∷ 4 ∷ 5 ∷ 6 ∷ 7 ∷ 8 ∷ []) (tagOf the-type e) → k .voices ≡ knownAfter k (deed k e) .voices
+unfolding deed knownAfter
+others k (Event.Open n t p) h = absurd (miss (1 ∷ 2 ∷ 3 ∷ 4 ∷ 5 ∷ 6 ∷ 7 ∷ 8 ∷ []) 0 tt h)
+others k (Event.SetParams v p) h = refl
+others k (Event.SetAllParams p) h = refl
+others k (Event.SetTiming t) h = refl
+others k (Event.Trigger v x) h = refl
+others k (Event.Release v) h = refl
+others k (Event.Reset v) h = refl
+others k (Event.Join v from) h = refl
+others k (Event.Frames n) h = refl
 
 enum-known-event : tie.Need-enum-known-event
 enum-known-event c = search needs
@@ -9,86 +29,12 @@ enum-known-event c = search needs
 cast-result : tie.Need-cast-result
 cast-result c = search needs
 
-enum-told : tie.Need-enum-told
-enum-told c = search needs
-
-enum-told-2 : tie.Need-enum-told-2
-enum-told-2 c = search needs
-
-enum-told-3 : tie.Need-enum-told-3
-enum-told-3 c = search needs
-
-enum-told-4 : tie.Need-enum-told-4
-enum-told-4 c = search needs
-
-enum-told-5 : tie.Need-enum-told-5
-enum-told-5 c = search needs
-
-enum-told-6 : tie.Need-enum-told-6
-enum-told-6 c = search needs
-
-enum-told-7 : tie.Need-enum-told-7
-enum-told-7 c = search needs
-
-enum-told-8 : tie.Need-enum-told-8
-enum-told-8 c = search needs
-
 returns : tie.Need-returns
 unfolding deed knownAfter
 returns c = simp (c .before .event .given .1)
 
 returns-2 : tie.Need-returns-2
-unfolding deed knownAfter
-returns-2 c = simp (c .enum-told .given .1)
-
-returns-3 : tie.Need-returns-3
-unfolding deed knownAfter
-returns-3 c = simp (c .enum-told2 .given .1)
-
-returns-4 : tie.Need-returns-4
-unfolding deed knownAfter
-returns-4 c = simp (c .enum-told3 .given .1)
-
-returns-5 : tie.Need-returns-5
-unfolding deed knownAfter
-returns-5 c = simp (c .enum-told4 .given .1)
-
-returns-6 : tie.Need-returns-6
-unfolding deed knownAfter
-returns-6 c = simp (c .enum-told5 .given .1)
-
-returns-7 : tie.Need-returns-7
-unfolding deed knownAfter
-returns-7 c = simp (c .enum-told6 .given .1)
-
-returns-8 : tie.Need-returns-8
-unfolding deed knownAfter
-returns-8 c = simp (c .enum-told7 .given .1)
-
-returns-9 : tie.Need-returns-9
-unfolding deed knownAfter
-returns-9 c = simp (c .enum-told8 .given .1)
+returns-2 c = others (knownOf (c .before .args .voices)) (c .before .args .event) (c .match .keys2)
 
 pub voices-after-spec : {M : Type 1} → statement M
-voices-after-spec =
-    tie.close
-    (tie.spec
-    enum-known-event
-    cast-result
-    enum-told
-    enum-told-2
-    enum-told-3
-    enum-told-4
-    enum-told-5
-    enum-told-6
-    enum-told-7
-    enum-told-8
-    returns
-    returns-2
-    returns-3
-    returns-4
-    returns-5
-    returns-6
-    returns-7
-    returns-8
-    returns-9)
+voices-after-spec = tie.close (tie.spec enum-known-event cast-result returns returns-2)
