@@ -31,7 +31,7 @@ use Rattle.checking.proofs.Judging.{passed-few}
 use Rattle.checking.proofs.Passing.{one-more, some, refused-none, still, Accepted, judged-accepted}
 use Rattle.player.specs.declared.turns.Turn.{Turn}
 use Rattle.player.specs.Parts.{turnOf}
-use Rattle.player.specs.Playing.{ifRecord, eventsFrom, events, unopened, after, heard, bytes}
+use Rattle.player.specs.Playing.{ifRecord, eventsFrom, events, unopened, after, heard, bytes, levelBytes}
 use Rattle.player.proofs.Bytes.{sets-append, bytes-append, length-bytes}
 use Rattle.player.proofs.Doing.{draws, InLanes, turned, in-lanes, turned-after, quiet, asks-none, turned-voices, turned-sized, same-voices, owing, Drawn, drawn}
 
@@ -55,7 +55,7 @@ pub record Played (l out₀ out : List ℕ) (b : EnvelopeBank) (at to owed recor
   pub place : to + 4 * (owed * strideOf (size b)) ≡ 4 * (asked * strideOf (size b))
   pub room : asked * strideOf (size b) ≤ length out₀ / 4
   -- With what is to come the output is what it has to be.
-  pub rest : sets out to (bytes (coming l b at owed records)) ≡ sets out₀ 0 (bytes (heard unopened (events l)))
+  pub rest : sets out to (bytes (coming l b at owed records)) ≡ sets out₀ 0 (levelBytes l)
 
 -- ---- the start
 
@@ -287,5 +287,5 @@ no-record l at zero k e = refl
 no-record l at (suc n) k e = ap (λ (r : Reading). ifRecord r (λ e next. e ∷ eventsFrom n l next)) e
 
 pub finished : (l out₀ out : List ℕ) (b : EnvelopeBank) (at to records : ℕ) → Played l out₀ out b at to 0 records → eventsFrom records l at ≡ []
-    → out ≡ sets out₀ 0 (bytes (heard unopened (events l)))
+    → out ≡ sets out₀ 0 (levelBytes l)
 finished l out₀ out b at to records P e = ap (λ (es : List Event). sets out to (bytes (heard b es))) (sym e) ∙ P .rest

@@ -1,4 +1,4 @@
--- As many frames are written as are returned, from the output's first byte on.
+-- As many frames are written as are returned, from the output's first byte on; and the place that is told of a list.
 use mathlib.Core.Path.{_≡_, refl, sym, ap, _∙_}
 use mathlib.Core.Bool.{Bool, true, false}
 use mathlib.Core.List.{List, _∷_, _++_}
@@ -11,7 +11,7 @@ use lib.Ieee.{Float}
 use lib.ListN.{length, drop, length-append}
 use lib.Seq.{sets, sets-eq}
 use Rattle.bank.specs.declared.banks.EnvelopeBank.{EnvelopeBank}
-use Rattle.bank.specs.Calls.{strideOf}
+use Rattle.bank.specs.Calls.{strideOf, ifAccepted}
 use Rattle.bank.specs.Banks.{size, known, frames, rows}
 use Rattle.bank.proofs.Frames.{length-rows}
 use Rattle.histories.proofs.Rows.{frames-size}
@@ -22,10 +22,10 @@ use Rattle.events.proofs.Records.{read-first, read-next, read-refused}
 use Rattle.checking.specs.declared.Checked.{Checked}
 use Rattle.checking.specs.Deeds.{deed, framesOf}
 use Rattle.checking.specs.Checks.{start, passed, judged, met, checkedFrom, checked}
-use Rattle.checking.proofs.Judging.{if-accepted, passed-few}
-use Rattle.checking.proofs.Passing.{some, refused-none, still, ended, next-check, Accepted, judged-accepted, checked-held}
+use Rattle.checking.proofs.Judging.{passed-few}
+use Rattle.checking.proofs.Passing.{some, refused-none, still, ended, next-check, Accepted, judged-accepted, checked-held, accepted-whole}
 use Rattle.player.specs.Parts.{turnOf}
-use Rattle.player.specs.Playing.{ifRecord, eventsFrom, events, unopened, after, handed, heard, bytes, output}
+use Rattle.player.specs.Playing.{ifRecord, eventsFrom, events, unopened, after, handed, heard, levelBytes, refusedAt}
 use Rattle.player.proofs.Bytes.{length-bytes}
 use Rattle.player.proofs.Doing.{draws, turned-after, turned-voices, quiet, asks-none, same-voices, drawn}
 use Rattle.player.proofs.Progress.{far, unopened-voices}
@@ -132,17 +132,21 @@ frames-written l n z =
     let g = ap (λ (c : Checked). c .frames * strideOf (c .voices)) k in
     omega (arith, h, g)
 
--- So the output is the levels' bytes, and what it held past them.
-pub output-written : (l out : List ℕ) → checked l (length out) .refusal ≡ 0
-    → let xs = bytes (heard unopened (events l)) in
-    output l out ≡ xs ++ drop (length xs) out
-unfolding output
-output-written l out z =
-    let xs = bytes (heard unopened (events l)) in
+-- So the levels' bytes fit the output, and put from its first byte on they stand before what it held past them.
+pub bytes-written : (l out : List ℕ) → checked l (length out) .refusal ≡ 0 → sets out 0 (levelBytes l) ≡ levelBytes l ++ drop (length (levelBytes l)) out
+bytes-written l out z =
+    let xs = levelBytes l in
     let n = length-bytes (heard unopened (events l)) in
     let m = frames-written l (length out) z in
     let h : 0 + length xs ≤ length out = omega (arith, n, m, checked-held l (length out) .levels, div-mul-le-self (length out) 4) in
     let e : 0 + length xs ≡ length xs = omega arith in
-    if-accepted (checked l (length out) .refusal) (sets out 0 xs) out z
-    ∙ sets-eq xs out 0 h
-    ∙ ap (λ (k : ℕ). xs ++ drop k out) e
+    sets-eq xs out 0 h ∙ ap (λ (k : ℕ). xs ++ drop k out) e
+
+-- The check of an accepted list ends at the list's end.
+pub place-told : (l : List ℕ) (n : ℕ) → checked l n .at ≡ refusedAt l n
+unfolding refusedAt
+place-told l n = go (checked l n .refusal) refl
+  where
+    go : (k : ℕ) → checked l n .refusal ≡ k → checked l n .at ≡ ifAccepted k (length l) (checked l n .at)
+    go zero z = accepted-whole l n z
+    go (suc k) z = refl

@@ -2,8 +2,7 @@
 use Prim.Native.Nat.{ℕ, zero, suc, _/_, _%_}
 use mathlib.Core.List.{List, [], _∷_, _++_}
 use lib.IntN.{ℤ, pos, negℤ}
-use lib.ListN.{length}
-use lib.Seq.{sets}
+use lib.ListN.{length, drop}
 use lib.Ieee.{Float, binary32, toBits}
 use Rattle.numbers.specs.Constants as Constants
 use Rattle.timing.specs.Clock as Clock
@@ -78,12 +77,22 @@ abbrev pub bytes : List Float → List ℕ
 bytes [] = []
 bytes (x ∷ xs) = lowestFirst 4 (toBits binary32 x) ++ bytes xs
 
+-- The bytes of a list's levels.
+abbrev pub levelBytes : List ℕ → List ℕ
+levelBytes l = bytes (heard unopened (events l))
+
 -- ---- what the host gets
 
 -- Frames written, or minus the refusal's number.
 unfoldable pub result : List ℕ → ℕ → ℤ
 result l outLength = let c = Checks.checked l outLength in ifAccepted (c .refusal) (pos (c .frames)) (negℤ (pos (c .refusal)))
 
--- The output: the levels' bytes from its first byte on, and what it held past them; all that it held if the list is refused.
+-- The output: the levels' bytes from its first byte on, then what it held past them; all that it held if the list is refused.
 unfoldable pub output : List ℕ → List ℕ → List ℕ
-output l out = ifAccepted (Checks.checked l (length out) .refusal) (sets out 0 (bytes (heard unopened (events l)))) out
+output l out =
+    let bs = levelBytes l in
+    ifAccepted (Checks.checked l (length out) .refusal) (bs ++ drop (length bs) out) out
+
+-- The refused record's first byte, or the list's length if nothing is refused.
+unfoldable pub refusedAt : List ℕ → ℕ → ℕ
+refusedAt l outLength = let c = Checks.checked l outLength in ifAccepted (c .refusal) (length l) (c .at)

@@ -58,7 +58,7 @@ fn put_levels(levels: &[f32], count: usize, out: &mut [u8], at: usize)
 // in its lane, and only the other calls take and give back the whole bank.
 fn play(list: &[u8], out: &mut [u8])
     requires { ⌜ Checks.checked (now list) (length (now out)) .refusal ≡ 0 ⌝ }
-    ensures { λ r. ⌜ now (out .exit) ≡ sets (now (out .entry)) 0 (Playing.bytes (Playing.heard Playing.unopened (Playing.events (now (list .entry))))) ⌝ }
+    ensures { λ r. ⌜ now (out .exit) ≡ sets (now (out .entry)) 0 (Playing.levelBytes (now (list .entry))) ⌝ }
 {
     let mut levels = [0f32; BLOCK];
     let mut b = EnvelopeBank::new(0, EnvelopeParams::AMP, Timing::new(0.0)).bank;
@@ -162,7 +162,7 @@ pub extern "C" fn worfelli_play(list: &[u8], out: &mut [u8]) -> i64
 // list's length if it is not refused.
 #[no_mangle]
 pub extern "C" fn worfelli_refused_at(list: &[u8], out_len: usize) -> u64
-    ensures { λ r. ⌜ r ≡ Checks.checked (now (list .entry)) «out_len» .at ⌝ }
+    ensures { λ r. ⌜ r ≡ Playing.refusedAt (now (list .entry)) «out_len» ⌝ }
 {
     checking::check(list, out_len).at as u64
 }
