@@ -3,8 +3,8 @@
 //! bytes each.
 //!
 //! A call, 88 bytes: byte 0 its tag, 1..48 settings S or a trigger's kind or a
-//! 32-bit count of frames, 48..72 timing T, the rest only the bank's; what it
-//! doesn't use is 0. A reply, 22 words of 32 bits: the refusal, the settings'
+//! 32-bit count of frames, 48..72 timing T, 72..80 a note's frames, the rest
+//! only the bank's; what it doesn't use is 0. A reply, 22 words of 32 bits: the refusal, the settings'
 //! 14 fields in their order, the stage, whether idle, the level, then tail and
 //! lead, two words each with the lower first. S and T are document 01's.
 
@@ -58,10 +58,41 @@ pub enum Call {
     /// One block of so many frames, at most [`LONGEST`].
     Process(u32),
     NextLevel,
+    /// Its calls in a row, on an envelope that is lent to them.
+    Note(Note),
 }
 
-/// The names of the calls, in the order of their tags, which begin with 1.
-pub const NAMES: [&str; 8] = [
+/// A trigger after a reset, so many frames with the key down, at most
+/// [`LONGEST`], new settings and timing, one frame more and the release.
+#[derive(Clone, Copy, Debug)]
+pub struct Note {
+    pub trigger: Trigger,
+    pub frames: u32,
+    pub settings: EnvelopeParams,
+    pub timing: Timing,
+}
+
+impl Note {
+    /// Its calls, in their order.
+    #[must_use]
+    pub fn calls(&self) -> [Call; 7] {
+        [
+            Call::Reset,
+            Call::Trigger(self.trigger),
+            Call::Process(self.frames),
+            Call::Settings(self.settings),
+            Call::Timing(self.timing),
+            Call::NextLevel,
+            Call::Release,
+        ]
+    }
+}
+
+/// The tag of a note with a new trigger; those of the other kinds follow.
+const NOTE: u8 = 19;
+
+/// The names of the calls, in the order of their numbers.
+pub const NAMES: [&str; 9] = [
     "fresh",
     "settings",
     "timing",
@@ -70,9 +101,19 @@ pub const NAMES: [&str; 8] = [
     "reset",
     "process",
     "next_level",
+    "note",
 ];
 
 impl Call {
+    /// Which of [`NAMES`] it has.
+    #[must_use]
+    pub fn number(&self) -> usize {
+        match self {
+            Self::Note(_) => NAMES.len() - 1,
+            _ => usize::from(self.tag()) - 1,
+        }
+    }
+
     #[must_use]
     pub fn tag(&self) -> u8 {
         match self {
@@ -84,12 +125,13 @@ impl Call {
             Self::Reset => 6,
             Self::Process(_) => 7,
             Self::NextLevel => 8,
+            Self::Note(note) => NOTE + kind(note.trigger),
         }
     }
 
     #[must_use]
     pub fn name(&self) -> &'static str {
-        NAMES[usize::from(self.tag()) - 1]
+        NAMES[self.number()]
     }
 
     /// How many levels it writes.
@@ -98,6 +140,7 @@ impl Call {
         match self {
             Self::Process(frames) => *frames as usize,
             Self::NextLevel => 1,
+            Self::Note(note) => note.frames as usize + 1,
             _ => 0,
         }
     }
@@ -118,6 +161,11 @@ impl Call {
             Self::Trigger(trigger) => bytes[1] = kind(*trigger),
             Self::Process(frames) => bytes[1..5].copy_from_slice(&frames.to_le_bytes()),
             Self::Release | Self::Reset | Self::NextLevel => {}
+            Self::Note(note) => {
+                bytes[1..48].copy_from_slice(&settings_bytes(&note.settings));
+                bytes[48..72].copy_from_slice(&timing_bytes(&note.timing));
+                bytes[72..80].copy_from_slice(&u64::from(note.frames).to_le_bytes());
+            }
         }
         bytes
     }
@@ -312,6 +360,19 @@ mod tests {
         assert_eq!(bytes[72..], [0; 16], "no voices");
         assert_eq!(Call::Trigger(Trigger::Legato).bytes()[..3], [4, 2, 0]);
         assert_eq!(Call::Process(LONGEST).bytes()[..6], [7, 0, 0, 1, 0, 0]);
+        let note = Call::Note(Note {
+            trigger: Trigger::Legato,
+            frames: LONGEST,
+            settings: settings(),
+            timing,
+        });
+        let bytes = note.bytes();
+        assert_eq!((bytes[0], note.name()), (21, "note"));
+        assert_eq!(
+            bytes[72..],
+            [0, 0, 1, 0, 0, 0, 0, 0, 0, 0, 0, 0, 0, 0, 0, 0]
+        );
+        assert_eq!(bytes[1..72], Call::Fresh(settings(), timing).bytes()[1..72]);
     }
 
     #[test]

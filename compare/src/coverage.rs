@@ -7,7 +7,7 @@ use crate::lists::{List, Step};
 use crate::rust::envelope::{Stage, Trigger};
 
 /// The kinds of calls that every stage has to meet.
-const KINDS: [&str; 11] = [
+const KINDS: [&str; 12] = [
     "settings",
     "timing",
     "new",
@@ -19,6 +19,7 @@ const KINDS: [&str; 11] = [
     "reset",
     "process",
     "next_level",
+    "note",
 ];
 
 /// The refusals' numbers, 0 for none.
@@ -45,7 +46,7 @@ impl Coverage {
         self.levels += list.levels.len() as u64;
         let mut before: Option<&Step> = None;
         for step in &list.steps {
-            self.calls[usize::from(step.call.tag()) - 1] += 1;
+            self.calls[step.call.number()] += 1;
             let refusal = REFUSALS.iter().position(|of| *of == step.reply.refusal);
             if let Some(refusal) = refusal {
                 self.refusals[refusal] += 1;
@@ -173,7 +174,7 @@ mod tests {
         assert_eq!(coverage.met[2][3], 1, "retrigger in Attack");
         assert_eq!(coverage.met.as_flattened().iter().sum::<u64>(), 2);
         assert_eq!(coverage.zeros[0b10100], 1, "no delay and no hold");
-        // 75 pairs of 77, refusal 3, and the combinations of zero times.
-        assert_eq!(coverage.missing().len(), 77);
+        // 82 pairs of 84, refusal 3, and the combinations of zero times.
+        assert_eq!(coverage.missing().len(), 84);
     }
 }

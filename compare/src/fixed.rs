@@ -19,10 +19,11 @@ type Build = fn(&mut Case) -> bool;
 
 /// Each case: its name, and what makes it and answers whether it shows what
 /// the name says.
-const CASES: [(&str, Build); 33] = [
+const CASES: [(&str, Build); 34] = [
     ("document 01's sample list", notes::the_sample),
     ("next_level by next_level", notes::one_by_one),
     ("a reset in mid-attack", notes::reset),
+    ("notes on a lent envelope", notes::lent),
     ("legato on a releasing voice", notes::legato_in_release),
     (
         "inverted legato on a releasing voice",

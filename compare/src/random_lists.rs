@@ -2,7 +2,7 @@
 //! stands, so that blocks end at, before and after the ends of segments and
 //! stages, and changes meet stages in their middle.
 
-use crate::calls::{Call, LONGEST};
+use crate::calls::{Call, LONGEST, Note};
 use crate::lists::List;
 use crate::random::Random;
 use crate::reference;
@@ -102,6 +102,9 @@ fn call(random: &mut Random, style: Style, envelope: &Envelope, room: usize) -> 
     if matches!(style, Style::Segments | Style::Long) && random.coin() {
         return Call::Process(frames(random, style, envelope, room));
     }
+    if random.below(24) == 0 {
+        return Call::Note(note(random, style, envelope, room));
+    }
     match random.below(100) {
         0..36 => Call::Process(frames(random, style, envelope, room)),
         36..46 => Call::NextLevel,
@@ -112,6 +115,16 @@ fn call(random: &mut Random, style: Style, envelope: &Envelope, room: usize) -> 
         85..91 => Call::Trigger(Trigger::Legato),
         91..98 => Call::Release,
         _ => Call::Reset,
+    }
+}
+
+/// A note whose settings or timing are over their limits now and then.
+fn note(random: &mut Random, style: Style, envelope: &Envelope, room: usize) -> Note {
+    Note {
+        trigger: random.choose(&[Trigger::New, Trigger::Retrigger, Trigger::Legato]),
+        frames: frames(random, style, envelope, room),
+        settings: changed_settings(random, style, envelope),
+        timing: changed_timing(random, style, envelope),
     }
 }
 
@@ -215,7 +228,7 @@ mod tests {
             assert!(list.steps.len() as u64 <= CALLS);
             assert!(matches!(list.steps[0].call, Call::Fresh(..)));
             for step in &list.steps {
-                assert!(step.call.levels() <= LONGEST as usize);
+                assert!(step.call.levels() <= LONGEST as usize + 1);
             }
         }
     }

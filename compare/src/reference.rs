@@ -73,6 +73,11 @@ fn apply(envelope: &mut Envelope, call: &Call, levels: &mut Vec<f32>) -> u32 {
             envelope.process(&mut levels[before..]);
         }
         Call::NextLevel => levels.push(envelope.next_level()),
+        Call::Note(note) => {
+            let [.., settings, timing, _, _] =
+                note.calls().map(|call| apply(envelope, &call, levels));
+            return if timing == ACCEPTED { settings } else { timing };
+        }
     }
     ACCEPTED
 }

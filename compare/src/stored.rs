@@ -110,7 +110,7 @@ mod tests {
         let mut tags: Vec<u8> = stored.calls.iter().copied().step_by(CALL).collect();
         tags.sort_unstable();
         tags.dedup();
-        assert_eq!(tags, (1..=18).collect::<Vec<u8>>());
+        assert_eq!(tags, (1..=21).collect::<Vec<u8>>());
         assert!(stored.calls.len() + stored.replies.len() < 200_000);
     }
 }

@@ -1,8 +1,9 @@
 //! Cases about notes: the stages that a trigger or a release begins, and where
 //! an attack joins its curve.
 
-use super::{Case, NONE, SAMPLE};
-use crate::calls::Call;
+use super::{Case, NONE, RATE_1000, SAMPLE};
+use crate::calls::{Call, Note};
+use crate::reference::{ACCEPTED, LIMIT, RATE, TIME};
 use crate::rust::envelope::{EnvelopeParams, Stage, StealRestart, TimeUnit, Timing, Trigger};
 
 pub(super) fn the_sample(case: &mut Case) -> bool {
@@ -37,6 +38,44 @@ pub(super) fn reset(case: &mut Case) -> bool {
     case.ask(Call::Reset);
     let at_once = case.stands(Stage::Idle, 0.25) && case.lead() == Some(0);
     at_once && case.frames(2) == [0.25, 0.25]
+}
+
+/// A note of each kind, then one that may change neither settings nor timing.
+pub(super) fn lent(case: &mut Case) -> bool {
+    let note = |trigger, settings, timing| {
+        Call::Note(Note {
+            trigger,
+            frames: 5,
+            settings,
+            timing,
+        })
+    };
+    let levels = [0.0, 0.0, 0.0, 0.25, 0.5, 0.75];
+    let settings = EnvelopeParams {
+        release: 4.0,
+        ..SAMPLE
+    };
+    case.fresh(SAMPLE);
+    let mut shown = true;
+    for trigger in [Trigger::New, Trigger::Retrigger, Trigger::Legato] {
+        shown &= case.ask(note(trigger, settings, RATE_1000)) == levels;
+        shown &= case.refused(ACCEPTED) && case.stands(Stage::Release, 1.0);
+        shown &= case.frames(2) == [1.0, 0.75] && case.tail() == Some(4);
+    }
+    let slow = EnvelopeParams {
+        release: LIMIT.next_up(),
+        ..SAMPLE
+    };
+    let fast = Timing::new(f64::from(LIMIT).next_up());
+    for (settings, timing, number) in [
+        (slow, RATE_1000, TIME),
+        (settings, fast, RATE),
+        (slow, fast, RATE),
+    ] {
+        shown &= case.ask(note(Trigger::New, settings, timing)) == levels;
+        shown &= case.refused(number) && case.tail() == Some(4);
+    }
+    shown
 }
 
 /// A voice that is 2 of 8 samples into its release.

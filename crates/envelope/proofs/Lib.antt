@@ -4,3 +4,4 @@ pub mod Runs
 pub mod Cuts
 pub mod Reachable
 pub mod Notes
+pub mod Types

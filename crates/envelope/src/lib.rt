@@ -2,6 +2,7 @@
 // 01 adds. Calls take the envelope and answer the one after; readings take it and change nothing.
 mod drawing;
 mod envelopes;
+mod in_place;
 
 pub use curve::MAX_BEND;
 pub use envelopes::Answer;

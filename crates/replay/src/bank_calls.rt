@@ -46,7 +46,7 @@ fn processed(b: EnvelopeBank, count: usize, levels: &mut [f32]) -> EnvelopeBank
 {
     fill(levels, count);
     let answer = b.process(&mut levels[0..count]);
-    bank_replies::write_refusal(answer.refusal);
+    replies::write_word(answer.refusal);
     replies::write_levels(levels, count);
     answer.bank
 }
@@ -63,6 +63,6 @@ pub(crate) fn answered(b: EnvelopeBank, call: &[u8], levels: &mut [f32]) -> Enve
         return b;
     }
     let answer = called(b, call);
-    bank_replies::write_refusal(answer.refusal);
+    replies::write_word(answer.refusal);
     answer.bank
 }

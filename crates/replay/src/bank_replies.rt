@@ -123,10 +123,3 @@ pub(crate) fn write_readings(b: EnvelopeBank, voice: usize) {
     replies::put_words(&mut bytes, &words, 9);
     io::write_all(1, &bytes);
 }
-
-pub(crate) fn write_refusal(refusal: u32) {
-    let words = [refusal];
-    let mut bytes = [0u8; 4];
-    replies::put_words(&mut bytes, &words, 1);
-    io::write_all(1, &bytes);
-}

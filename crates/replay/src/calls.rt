@@ -127,6 +127,27 @@ pub(crate) fn count(b: &[u8], most: usize) -> usize
     most
 }
 
+// The kind of a note's trigger, by the note's tag.
+pub(crate) fn note_kind(tag: u8) -> Trigger {
+    match tag {
+        19 => Trigger::New,
+        20 => Trigger::Retrigger,
+        _ => Trigger::Legato,
+    }
+}
+
+// How many frames a note's key is held, at most `most`.
+pub(crate) fn note_frames(b: &[u8], most: usize) -> usize
+    requires { ⌜ 88 ≤ length (now b) ⌝ }
+    ensures { λ r. ⌜ r ≤ most ⌝ }
+{
+    let frames = voice(b);
+    if frames < most {
+        return frames;
+    }
+    most
+}
+
 fn accepted(e: Envelope) -> Answer {
     Answer {
         refusal: ACCEPTED,

@@ -9,6 +9,10 @@
 // words of four bytes: the refusal's number, the settings after the call, the stage, whether it is
 // idle, the level's bits, tail and lead (two words each); then the levels' bits.
 //
+// Tags 19 to 21: a note of the trigger's kinds 0 to 2, on the envelope lent (the number of frames at
+// 72, at most 65,536). Its answer is that of an envelope, with the number that refused the timing,
+// else the settings; then the levels of the frames and the one after them.
+//
 // Tags of the bank: 9 open (how many voices at 72), 10 settings, 11 settings for all, 12 timing,
 // 13 trigger, 14 release, 15 reset, 16 join (from the voice at 80), 17 process (the length of the
 // output at 1, at most 262,144), 18 readings. Its answer is the refusal's number, one word; to a
@@ -18,12 +22,14 @@
 mod bank_calls;
 mod bank_replies;
 mod calls;
+mod notes;
 mod replies;
 
 ghost use Prim.Native.Nat.{_≤_};
 ghost use lib.ListN.{length};
 use bank::EnvelopeBank;
 use envelope::Envelope;
+use settings::ACCEPTED;
 use settings::EnvelopeParams;
 use timing::Timing;
 
@@ -45,6 +51,35 @@ fn drawn(e: Envelope, tag: u8, frames: usize, levels: &mut [f32]) -> Envelope
     e.after_process(&mut levels[0..frames])
 }
 
+// The number of the first refusal of a note, the timing's before the settings'.
+fn note_refusal(params_refused: u32, timing_refused: u32) -> u32 {
+    if timing_refused != ACCEPTED {
+        return timing_refused;
+    }
+    params_refused
+}
+
+// The envelope after a note, which is answered.
+fn note_answered(e: Envelope, call: &[u8], levels: &mut [f32]) -> Envelope
+    requires { ⌜ (88 ≤ length (now call)) × (65536 ≤ length (now levels)) ⌝ }
+{
+    let frames = calls::note_frames(call, 65536);
+    let note = notes::played(
+        e,
+        calls::note_kind(call[0]),
+        &mut levels[0..frames],
+        calls::params(call),
+        calls::timing(call),
+    );
+    replies::write_reply(
+        note_refusal(note.params_refused, note.timing_refused),
+        note.envelope,
+    );
+    replies::write_levels(levels, frames);
+    replies::write_word(numbers::f32_to_bits(note.level));
+    note.envelope
+}
+
 // The envelope after a call, which is answered.
 fn envelope_answered(e: Envelope, call: &[u8], levels: &mut [f32]) -> Envelope
     requires { ⌜ (88 ≤ length (now call)) × (65536 ≤ length (now levels)) ⌝ }
@@ -63,6 +98,12 @@ fn answered(s: State, call: &[u8], levels: &mut [f32]) -> State
 {
     let e = s.envelope;
     let b = s.bank;
+    if call[0] > 18 {
+        return State {
+            envelope: note_answered(e, call, levels),
+            bank: b,
+        };
+    }
     if call[0] > 8 {
         return State {
             envelope: e,

@@ -2,6 +2,7 @@
 ghost use mathlib.Core.Path.{_≡_};
 ghost use Prim.Native.Nat.{_+_, _*_, _≤_};
 ghost use lib.ListN.{length};
+ghost use Rattle.replay.specs.Notes as Notes;
 use envelope::Envelope;
 use settings::EnvelopeParams;
 use settings::Stage;
@@ -112,6 +113,13 @@ fn reply(refusal: u32, t: Told) -> [u32; 22]
     ]
 }
 
+pub(crate) fn write_word(word: u32) {
+    let words = [word];
+    let mut bytes = [0u8; 4];
+    put_words(&mut bytes, &words, 1);
+    io::write_all(1, &bytes);
+}
+
 // What is told after the number of a refusal, 22 words with it.
 pub(crate) fn write_told(refusal: u32, t: Told) {
     let words = reply(refusal, t);
@@ -120,19 +128,23 @@ pub(crate) fn write_told(refusal: u32, t: Told) {
     io::write_all(1, &bytes);
 }
 
+// What is told of an envelope, which is lent to one reading after the other.
+fn readings(e: Envelope) -> Told
+    ensures { λ r. ⌜ r ≡ Notes.told e ⌝ }
+{
+    Told {
+        params: e.params(),
+        stage: e.stage(),
+        idle: e.is_idle(),
+        level: e.level(),
+        tail: e.tail(),
+        lead: e.lead(),
+    }
+}
+
 // The answer to a call that left the envelope e.
 pub(crate) fn write_reply(refusal: u32, e: Envelope) {
-    write_told(
-        refusal,
-        Told {
-            params: e.params_now(),
-            stage: e.stage_now(),
-            idle: e.is_idle_now(),
-            level: e.level_now(),
-            tail: e.tail_now(),
-            lead: e.lead_now(),
-        },
-    );
+    write_told(refusal, readings(e));
 }
 
 // The bits of up to 1024 levels, from levels[from] on.

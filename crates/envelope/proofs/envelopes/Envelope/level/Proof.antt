@@ -1,0 +1,12 @@
+use Rattle.envelope.specs.Envelopes as Envelopes
+use Rattle.lent.proofs.Read as Read
+use Rattle.envelope.proofs.Types.{envelope, level}
+use Rattle.envelope.proofs.envelopes.Envelope.level_now.Symbol as core
+use Rattle.envelope.proofs.envelopes.Envelope.level_now.Met as core-thm
+use Rattle.envelope.proofs.envelopes.Envelope.level.Key as key
+use Rattle.envelope.proofs.envelopes.Envelope.level.Statement.{statement}
+use Rattle.envelope.proofs.envelopes.Envelope.level.Code as code
+
+pub level-spec : {M : Type 1} → statement M
+unfolding code.routine
+level-spec 𝓤 H 𝓜 𝓖 𝓡 = Read.spec envelope level Envelopes.level 𝓤 H 𝓜 𝓖 𝓡 code.env key.name core.name (code.unfolded 𝓤 H 𝓜 𝓡) core.routine code.calls-envelope·envelopes·Envelope·level-now (core-thm.met 𝓤 H 𝓜 𝓖 𝓡)

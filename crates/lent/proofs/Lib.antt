@@ -1,0 +1,10 @@
+pub mod Data
+pub mod Params
+pub mod ByValue
+pub mod Answers
+pub mod Lending
+pub mod Thin
+pub mod Changed
+pub mod Read
+pub mod Again
+pub mod Filled

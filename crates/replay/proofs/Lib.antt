@@ -1,0 +1,2 @@
+-- The structs that the uses of the lent envelope answer.
+pub mod Types

@@ -1,0 +1,2 @@
+-- What the program's uses of the lent envelope promise.
+pub mod Notes
