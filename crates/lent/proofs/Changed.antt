@@ -34,7 +34,7 @@ use denote.Triple.End.{all}
 use denote.Triple.Walked.{Stays, stay-ref, walkOf, hasOf, goes-ref, ends-at, walked, walk-meets}
 use denote.Triple.Clauses.{Ended, Clauses, Lasts, ensured, closing, lasts}
 use Rattle.lent.proofs.Data.{Data, row, makes}
-use Rattle.lent.proofs.Params.{slots, dropped, rows-at, spells, tell, vals-at, Good-at, ends, fit, Args, vals, Good, given, taken, vals-taken, given-taken, good, good-taken, make, all-go, none-had, locals, homes, copies, after, spot-after, from-spot, alloc-all, pass-all, free-all, forget-all, copy-all, read-as}
+use Rattle.lent.proofs.Params.{slots, dropped, rows-at, spells, tell, vals-at, Good-at, ends, fit, Args, vals, Good, given, taken, vals-taken, given-taken, good, good-taken, make, all-go, none-had, locals, copies, after, spot-after, from-spot, alloc-all, pass-all, free-all, forget-all, copy-all, read-as}
 use Rattle.lent.proofs.ByValue.{ByValue, value, returned}
 use Rattle.lent.proofs.Answers.{Answer}
 use Rattle.lent.proofs.Thin.{stands}

@@ -12,14 +12,13 @@ use base.Fml.{GName, Lft, Share, ftrue, flft, fobs, fbor, fat, fres}
 use prog.Routine.{Routine, Env}
 use prog.Model.{Model}
 use prog.Wp.{Heap, Env as Frame, Calls, Loops, WpFn, Tables, Closed}
-use ghost.Atoms.{Atoms, sem}
+use ghost.Atoms.{Atoms}
 use contract.Monad.{fact}
 use contract.Running.{GhostRules, Running, tables}
-use types.Kit.{Given, Item, group, use2, use3, Seq, Post as Ends, runs, lands, ‵, raw, _⊛_, ⋆, some, later, _$_, _∵_, !, qed, by, move, keep, drop, use0, use1, split, join, pick, fsplit, fsplit3, fjoin, fjoin3, feqI, feqL, suffices, rewrite, await, done}
+use types.Kit.{Given, Item, group, Seq, Post as Ends, runs, lands, ‵, raw, _⊛_, ⋆, some, later, _$_, _∵_, !, qed, by, move, keep, drop, use0, use1, split, join, pick, fsplit, fsplit3, fjoin, fjoin3, feqI, feqL, suffices, rewrite, await, done}
 use types.Run.{Opds, look, look-raw, init, store-raw, forget, stop, hop, fld, from, load, addr, unit-lit, and-then, no-more, of-opd, land, assigns, returns, enter, alloc1, alloc0, params1, pass1, pass0, free1, free0}
 use types.Part.{agg, whole, sub, look-in}
 use types.SemTy.{Body}
-use types.Tokens.{lft-new, lft-end}
 use sound.WpLaws.{FmC, fmOf, WpFn-mono}
 use denote.RattleType.{owns}
 use denote.Laws.{Is}
@@ -41,7 +40,7 @@ use Rattle.lent.proofs.Answers.{both-said, both-heard}
 use Rattle.lent.proofs.ByValue.{returned}
 use Rattle.lent.proofs.Thin.{stands}
 use Rattle.lent.proofs.Lending.{to-local, taken-out, put-back, lends, comes-home}
-use Rattle.lent.proofs.Again.{LentAgain, lends-again, comes-back}
+use Rattle.lent.proofs.Slices.{sliced, lends-again, came-back}
 
 -- The struct and the slice afterwards, of the struct and the slice before.
 module _ (E F : Data) (G : E .D → List (F .D) → E .D) (S : E .D → List (F .D) → List (F .D)) where
@@ -99,10 +98,10 @@ module _ (E F : Data) (G : E .D → List (F .D) → E .D) (S : E .D → List (F 
         nothing ! $ move ! (2 ∷ 0 ∷ []) $ join ! $ join ! $ nothing ! $ move ! (1 ∷ 0 ∷ []) $ done !
 
   module _ {M : Type 1} {𝓤 : URA M} {H : Heap 𝓤} {A : Atoms 𝓤} {𝕂 : Type 0} {W : Given 𝓤 H A} {Γ : List (Item 𝓤)} {𝓔 : Frame 𝓤 H} {C : Calls 𝓤 H} {Λ : Loops 𝓤 H} {Q : Ends 𝓤 H} {f : Name} {xs : List Operand} {d : Place} {rest : Stmts} {κ : Lft} {q : Share} where
-    fills : 𝕂 → FmC 𝓤 H (W .laws) C → Triple 𝓤 (C f) (Core 𝓤 H A) → (h : E .D) → Is (row E) h (E .val h ∷ []) → (out : RefT (List (F .D))) → ((i : Item 𝓤) → Opds 𝕂 W (i ∷ Γ) 𝓔 xs (E .val h ∷ slice-vals out))
+    passes-on : 𝕂 → FmC 𝓤 H (W .laws) C → Triple 𝓤 (C f) (Core 𝓤 H A) → (h : E .D) → Is (row E) h (E .val h ∷ []) → (out : RefT (List (F .D))) → ((i : Item 𝓤) → Opds 𝕂 W (i ∷ Γ) 𝓔 xs (E .val h ∷ slice-vals out))
         → (length (S h (now out)) ≡ length (now out) → Is (row E) (G h (now out)) (E .val (G h (now out)) ∷ []) → Seq 𝕂 W (‵ (flft κ q) ∷ ‵ (finally (row F) (out .name) (S h (now out))) ∷ Γ) (lands C Λ 𝓔 d (E .val (G h (now out))) rest Q))
         → Seq 𝕂 W (‵ (MutSlice (named 0) κ (row F) .own out (slice-vals out)) ∷ ‵ (flft κ q) ∷ Γ) (runs C Λ 𝓔 (seq (call f xs d) rest) Q)
-    fills t fm known h is out os k =
+    passes-on t fm known h is out os k =
         join t $ use1 W (raw (Core 𝓤 H A .pre (passed 𝓤 H A κ q h out))) (begins 𝓤 H A κ q h out W is) $ calls-at t fm (Core 𝓤 H A) known (passed 𝓤 H A κ q h out) (os _) (λ v.
         use1 W (later (some (λ (r : E .D). ((‵ (flft κ q) ⊛ ‵ ftrue) ⊛ ‵ (E .own r (v ∷ []))) ⊛ raw (ensured 𝓤 H A core-end (core-clauses 𝓤 H A) (κ, tt) (h, (out, tt)) tt r)))) (id⊢ 𝓤 _) $ await t tt $ pick t (λ r.
         split t $ move t (1 ∷ []) $ use1 W (some (λ (ws : Unit {0} × (List (F .D) × Unit {0})). ‵ (lasts core-end (κ, tt) (h, (out, tt)) ws) ⊛ raw (Fills 𝓤 H A h (now out) r (ws .1 .0)))) (id⊢ 𝓤 _) $ pick t (λ ws.
@@ -119,7 +118,7 @@ module _ (E F : Data) (G : E .D → List (F .D) → E .D) (S : E .D → List (F 
 
     module _ (W : Given 𝓤 H A) (κ κ′ : Lft) (q q′ : Share) (b o : ℕ) (γ : GName) (h : E .D) (b′ o′ : ℕ) (γ′ : GName) (ys : List (F .D)) (room : Room (row F) (length ys)) where
       abbrev out : RefT (List (F .D))
-      out = record { ptr = (b′, o′); name = γ′; now = ys }
+      out = sliced b′ o′ γ′ ys
 
       abbrev s : Val
       s = sliceVal (b′, o′) (length ys)
@@ -154,7 +153,7 @@ module _ (E F : Data) (G : E .D → List (F .D) → E .D) (S : E .D → List (F 
             assigns ! (of-opd ! (load ! (from ! (hop ! (look ! 14 refl) (stop !))) (look-raw ! 0 refl))) (from ! (stop !)) (init ! 8 refl (E .typed 𝓤 H A W h _ was .0)) $
             assigns ! (addr ! (from ! (fld ! refl (hop ! (look-in ! 12 (sub ! 0 refl (whole !))) (stop !))))) (from ! (stop !)) (init ! 6 refl (tt, tt)) $
             assigns ! (agg ! (and-then ! (load ! (from ! (stop !)) (look ! 6 refl)) (and-then ! (load ! (from ! (fld ! refl (stop !))) (look-in ! 12 (sub ! 1 refl (whole !)))) (no-more !)))) (from ! (stop !)) (init ! 4 refl (tt, (tt, (record { fits = room .0 }, tt)))) $
-            move ! (18 ∷ 19 ∷ []) $ fills ! fm known h was out (λ i. and-then ! (load ! (from ! (stop !)) (look ! 9 refl)) (and-then ! (load ! (from ! (stop !)) (look ! 5 refl)) (no-more !))) (λ long is.
+            move ! (18 ∷ 19 ∷ []) $ passes-on ! fm known h was out (λ i. and-then ! (load ! (from ! (stop !)) (look ! 9 refl)) (and-then ! (load ! (from ! (stop !)) (look ! 5 refl)) (no-more !))) (λ long is.
             -- [the slice's token; its last list; the cell behind; the open borrow, three entries; the locals]
             land ! (from ! (stop !)) (init ! 12 refl (E .typed 𝓤 H A W (G h ys) _ is .0)) $
             assigns ! (of-opd ! (load ! (from ! (stop !)) (look ! 12 refl))) (from ! (hop ! (look ! 16 refl) (stop !))) (store-raw ! 2 refl (E .typed 𝓤 H A W (G h ys) _ is .0)) $
@@ -176,35 +175,29 @@ module _ (E F : Data) (G : E .D → List (F .D) → E .D) (S : E .D → List (F 
 
   -- ---- for a caller, which lends its local l, and lends its own `&mut` slice again
   module _ {M : Type 1} (𝓤 : URA M) (H : Heap 𝓤) (A : Atoms 𝓤) (l : ℕ) (h : E .D) (b o : ℕ) (ys : List (F .D)) (ν ν′ : ℕ) (γ δ : GName) where
-    abbrev again : RefT (List (F .D))
-    again = record { ptr = (b, o); name = δ; now = ys }
-
     abbrev lent : Whole 𝓤 H A .Ghost
-    lent = (((ν ∷ [], (ν′ ∷ [], tt)), (fullShare, (fullShare, tt)), tt, (to-local l γ h, (again, tt)), (vptr l 0 ∷ [], (slice-vals again, tt))), tt)
+    lent = (((ν ∷ [], (ν′ ∷ [], tt)), (fullShare, (fullShare, tt)), tt, (to-local l γ h, (sliced b o δ ys, tt)), (vptr l 0 ∷ [], (slice-vals (sliced b o δ ys), tt))), tt)
 
-    lent-begins : Given 𝓤 H A → ent 𝓤 (⋆ 𝓤 H A (‵ (MutSlice (named 1) (ν′ ∷ []) (row F) .own again (slice-vals again)) ∷ ‵ (flft (ν′ ∷ []) fullShare) ∷ ‵ (MutRef (named 0) (ν ∷ []) (row E) .own (to-local l γ h) (vptr l 0 ∷ [])) ∷ ‵ (flft (ν ∷ []) fullShare) ∷ [])) (Whole 𝓤 H A .pre lent)
+    lent-begins : Given 𝓤 H A → ent 𝓤 (⋆ 𝓤 H A (‵ (MutSlice (named 1) (ν′ ∷ []) (row F) .own (sliced b o δ ys) (slice-vals (sliced b o δ ys))) ∷ ‵ (flft (ν′ ∷ []) fullShare) ∷ ‵ (MutRef (named 0) (ν ∷ []) (row E) .own (to-local l γ h) (vptr l 0 ∷ [])) ∷ ‵ (flft (ν ∷ []) fullShare) ∷ [])) (Whole 𝓤 H A .pre lent)
     lent-begins W =
-        qed W (‵ (MutSlice (named 1) (ν′ ∷ []) (row F) .own again (slice-vals again)) ∷ ‵ (flft (ν′ ∷ []) fullShare) ∷ ‵ (MutRef (named 0) (ν ∷ []) (row E) .own (to-local l γ h) (vptr l 0 ∷ [])) ∷ ‵ (flft (ν ∷ []) fullShare) ∷ []) ∵
+        qed W (‵ (MutSlice (named 1) (ν′ ∷ []) (row F) .own (sliced b o δ ys) (slice-vals (sliced b o δ ys))) ∷ ‵ (flft (ν′ ∷ []) fullShare) ∷ ‵ (MutRef (named 0) (ν ∷ []) (row E) .own (to-local l γ h) (vptr l 0 ∷ [])) ∷ ‵ (flft (ν ∷ []) fullShare) ∷ []) ∵
         nothing ! $ move ! (1 ∷ 0 ∷ []) $ fjoin ! $ move ! (2 ∷ 0 ∷ []) $ fjoin ! $ nothing ! $ move ! (2 ∷ 0 ∷ []) $ join ! $ move ! (2 ∷ 0 ∷ []) $ join ! $ join ! $ nothing ! $ move ! (1 ∷ 0 ∷ []) $ done !
 
   module _ {M : Type 1} {𝓤 : URA M} {H : Heap 𝓤} {A : Atoms 𝓤} {𝕂 : Type 0} {W : Given 𝓤 H A} {Γ : List (Item 𝓤)} {𝓔 : Frame 𝓤 H} {C : Calls 𝓤 H} {Λ : Loops 𝓤 H} {Q : Ends 𝓤 H} {f : Name} {xs : List Operand} {d : Place} {rest : Stmts} {κ : Lft} {q : Share} {γ′ : GName} where
-    pub processes : 𝕂 → FmC 𝓤 H (W .laws) C → Triple 𝓤 (C f) (Whole 𝓤 H A) → (l : ℕ) (h : E .D) → Is (row E) h (E .val h ∷ []) → (b o : ℕ) (ys : List (F .D)) → Room (row F) (length ys)
+    pub fills : 𝕂 → FmC 𝓤 H (W .laws) C → Triple 𝓤 (C f) (Whole 𝓤 H A) → (l : ℕ) (h : E .D) → Is (row E) h (E .val h ∷ []) → (b o : ℕ) (ys : List (F .D)) → Room (row F) (length ys)
         → ((i j k : Item 𝓤) → Opds 𝕂 W (i ∷ j ∷ k ∷ Γ) 𝓔 xs (vptr l 0 ∷ sliceVal (b, o) (length ys) ∷ []))
         → (Is (row E) (G h ys) (E .val (G h ys) ∷ []) → length (S h ys) ≡ length ys
-        → Seq 𝕂 W (‵ (fat fullShare (E .τ) l 0 (E .val (G h ys))) ∷ ‵ (MutSlice (named 0) κ (row F) .own (record { ptr = (b, o); name = γ′; now = S h ys }) (sliceVal (b, o) (length ys) ∷ [])) ∷ ‵ (flft κ q) ∷ Γ) (lands C Λ 𝓔 d vunit rest Q))
-        → Seq 𝕂 W (‵ (fat fullShare (E .τ) l 0 (E .val h)) ∷ ‵ (MutSlice (named 0) κ (row F) .own (record { ptr = (b, o); name = γ′; now = ys }) (sliceVal (b, o) (length ys) ∷ [])) ∷ ‵ (flft κ q) ∷ Γ) (runs C Λ 𝓔 (seq (call f xs d) rest) Q)
-    processes t fm known l h is b o ys room os k =
-        lends E t tt l h is (λ ν γ. lft-new t tt (λ ν′. move t (4 ∷ 5 ∷ []) $
-        use2 W (later (some (λ (δ : GName). ‵ (MutSlice (named 1) (ν′ ∷ []) (row F) .own (record { ptr = (b, o); name = δ; now = ys }) (sliceVal (b, o) (length ys) ∷ [])) ⊛ ‵ (LentAgain (row F) κ (ν′ ∷ []) q γ′ b o δ ys)))) (lends-again (row F) κ (ν′ ∷ []) q γ′ b o 𝓤 H A W (named 0) (named 1) ys) $ await t tt $ pick t (λ δ. split t $
-        -- [the slice lent again; what is kept of it; its token; the reference; its token; the lender's part]
-        move t (0 ∷ 2 ∷ 3 ∷ 4 ∷ []) $ group t 4 $ use1 W (raw (Whole 𝓤 H A .pre (lent 𝓤 H A l h b o ys ν ν′ γ δ))) (lent-begins 𝓤 H A l h b o ys ν ν′ γ δ W) $ calls-at t fm (Whole 𝓤 H A) known (lent 𝓤 H A l h b o ys ν ν′ γ δ) (os _ _ _) (λ v.
-        use1 W (later (some (λ (r : Unit {0}). ((‵ (flft (ν ∷ []) fullShare) ⊛ (‵ (flft (ν′ ∷ []) fullShare) ⊛ ‵ ftrue)) ⊛ ‵ (of-unit .own r (v ∷ []))) ⊛ raw (ensured 𝓤 H A lent-end (lent-clauses 𝓤 H A) (ν ∷ [], (ν′ ∷ [], tt)) (to-local l γ h, (again 𝓤 H A l h b o ys ν ν′ γ δ, tt)) tt r)))) (id⊢ 𝓤 _) $ await t tt $ pick t (λ r. split t $ move t (1 ∷ []) $
-        use1 W (some (λ (ws : E .D × (List (F .D) × Unit {0})). ‵ (lasts lent-end (ν ∷ [], (ν′ ∷ [], tt)) (to-local l γ h, (again 𝓤 H A l h b o ys ν ν′ γ δ, tt)) ws) ⊛ raw (Fills 𝓤 H A h ys (ws .0) (ws .1 .0)))) (id⊢ 𝓤 _) $ pick t (λ ws.
+        → Seq 𝕂 W (‵ (fat fullShare (E .τ) l 0 (E .val (G h ys))) ∷ ‵ (MutSlice (named 0) κ (row F) .own (sliced b o γ′ (S h ys)) (sliceVal (b, o) (length ys) ∷ [])) ∷ ‵ (flft κ q) ∷ Γ) (lands C Λ 𝓔 d vunit rest Q))
+        → Seq 𝕂 W (‵ (fat fullShare (E .τ) l 0 (E .val h)) ∷ ‵ (MutSlice (named 0) κ (row F) .own (sliced b o γ′ ys) (sliceVal (b, o) (length ys) ∷ [])) ∷ ‵ (flft κ q) ∷ Γ) (runs C Λ 𝓔 (seq (call f xs d) rest) Q)
+    fills t fm known l h is b o ys room os k =
+        lends E t tt l h is (λ ν γ. move t (3 ∷ 4 ∷ []) $ lends-again F b o ys t tt (λ ν′ δ.
+        -- [the slice lent again; its token; what is kept of it; the reference; its token; the lender's part]
+        move t (0 ∷ 1 ∷ 3 ∷ 4 ∷ []) $ group t 4 $ use1 W (raw (Whole 𝓤 H A .pre (lent 𝓤 H A l h b o ys ν ν′ γ δ))) (lent-begins 𝓤 H A l h b o ys ν ν′ γ δ W) $ calls-at t fm (Whole 𝓤 H A) known (lent 𝓤 H A l h b o ys ν ν′ γ δ) (os _ _ _) (λ v.
+        use1 W (later (some (λ (r : Unit {0}). ((‵ (flft (ν ∷ []) fullShare) ⊛ (‵ (flft (ν′ ∷ []) fullShare) ⊛ ‵ ftrue)) ⊛ ‵ (of-unit .own r (v ∷ []))) ⊛ raw (ensured 𝓤 H A lent-end (lent-clauses 𝓤 H A) (ν ∷ [], (ν′ ∷ [], tt)) (to-local l γ h, (sliced b o δ ys, tt)) tt r)))) (id⊢ 𝓤 _) $ await t tt $ pick t (λ r.
+        split t $ move t (1 ∷ []) $ use1 W (some (λ (ws : E .D × (List (F .D) × Unit {0})). ‵ (lasts lent-end (ν ∷ [], (ν′ ∷ [], tt)) (to-local l γ h, (sliced b o δ ys, tt)) ws) ⊛ raw (Fills 𝓤 H A h ys (ws .0) (ws .1 .0)))) (id⊢ 𝓤 _) $ pick t (λ ws.
         split t $ move t (1 ∷ []) $ use1 W (raw (fact 𝓤 ((ws .1 .0 ≡ S h ys) × (ws .0 ≡ G h ys)))) (both-heard 𝓤 (ws .1 .0 ≡ S h ys) (ws .0 ≡ G h ys)) $ heard t ((ws .1 .0 ≡ S h ys) × (ws .0 ≡ G h ys)) (λ e.
-        fsplit t $ move t (1 ∷ []) $ fsplit t $ fsplit t $ move t (1 ∷ []) $ feqL t (λ long. move t (3 ∷ []) $ split t $ move t (1 ∷ []) $ returned t of-unit tt refl (λ _. split t $
-        -- [the reference's token; the slice's token, true; its last list; true; e's last value; what is kept of the slice; the lender's part]
+        fsplit t $ move t (1 ∷ []) $ fsplit t $ fsplit t $ move t (1 ∷ []) $ feqL t (λ same. let long : length (S h ys) ≡ length ys = subst (λ (zs : List (F .D)). length zs ≡ length ys) (e .0) same in
+        move t (3 ∷ []) $ split t $ move t (1 ∷ []) $ returned t of-unit tt refl (λ _. split t $
+        -- [the reference's token; the slice's token, true; its last list; true; the last value of the local; what is kept of the slice; the lender's part]
         move t (0 ∷ 6 ∷ 4 ∷ []) $ rewrite t 2 (λ (y : E .D). ‵ (fres γ (E .coded .code y))) (e .1) refl $ rewrite t 4 (λ (zs : List (F .D)). ‵ (finally (row F) δ zs)) (e .0) refl $ comes-home E t tt l (G h ys) (λ is′.
-        let long′ : length (S h ys) ≡ length ys = subst (λ (zs : List (F .D)). length zs ≡ length ys) (e .0) long in
-        move t (1 ∷ []) $ split t $ lft-end t tt $ move t (0 ∷ 5 ∷ 3 ∷ []) $
-        use3 W (later (‵ (MutSlice (named 0) κ (row F) .own (record { ptr = (b, o); name = γ′; now = S h ys }) (sliceVal (b, o) (length ys) ∷ [])) ⊛ ‵ (flft κ q))) (comes-back (row F) κ (ν′ ∷ []) q γ′ b o 𝓤 H A W (named 0) (named 1) ys δ (S h ys) room long′) $ await t tt $ split t $
-        move t (3 ∷ 0 ∷ 1 ∷ []) $ move t (3 ∷ 4 ∷ []) $ drop t $ drop t $ k is′ long′))))))))))
+        move t (1 ∷ []) $ split t $ move t (0 ∷ 5 ∷ 3 ∷ []) $ came-back F b o ys t tt (S h ys) room long (move t (2 ∷ 4 ∷ []) $ drop t $ drop t $ move t (2 ∷ []) $ k is′ long))))))))))
