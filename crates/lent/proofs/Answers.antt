@@ -38,7 +38,6 @@ pub record Answer (E : Data) : Type 2 where
       → spotOf 𝓤 H 𝓔 d ≡ (B .τ, l, 0) → nth 𝓤 H A n Γ ≡ ‵ (fat fullShare (B .τ) l 0 (B .val b)) → Opd 𝕂 W Γ 𝓔 (hands d) (R .val (handed b))
   -- what a contract says of them
   pub Says : {M : Type 1} (𝓤 : URA M) → B .D → R .D → E .D → SProp 𝓤
-  pub says : {M : Type 1} (𝓤 : URA M) (b : B .D) → ent 𝓤 (emp 𝓤) (Says 𝓤 b (handed b) (kept b))
   pub hears : {M : Type 1} (𝓤 : URA M) (b : B .D) (r : R .D) (e : E .D) → ent 𝓤 (Says 𝓤 b r e) (fact 𝓤 ((r ≡ handed b) × (e ≡ kept b)))
 
 abbrev pub itself : (E : Data) → Answer E
@@ -54,11 +53,13 @@ itself E = record {
   keeps-it = λ t d n l b lies holds. load t (from-spot t lies (stop t)) (look t n holds);
   hands-it = λ t d n l b lies holds. unit-lit t;
   Says = λ 𝓤 b r e. fact 𝓤 (e ≡ b);
-  says = λ 𝓤 b. factI 𝓤 (b ≡ b) (emp 𝓤) refl;
   hears = λ 𝓤 b r e. fact-use 𝓤 (e ≡ b) (id⊢ 𝓤 _) (λ p. factI 𝓤 ((r ≡ tt) × (e ≡ b)) _ (refl, p));
 }
 
--- Two clauses of a contract, each a fact.
+-- A contract of one clause that is a fact, and of two.
+pub said : {M : Type 1} (𝓤 : URA M) {φ : Type 0} → φ → ent 𝓤 (emp 𝓤) (fact 𝓤 φ)
+said 𝓤 {φ} x = factI 𝓤 φ (emp 𝓤) x
+
 pub both-said : {M : Type 1} (𝓤 : URA M) {φ ψ : Type 0} → φ → ψ → ent 𝓤 (emp 𝓤) (sep 𝓤 (fact 𝓤 φ) (fact 𝓤 ψ))
 both-said 𝓤 {φ} {ψ} x y = via 𝓤 (sep 𝓤 (emp 𝓤) (emp 𝓤)) (emp∗ 𝓤 (emp 𝓤)) (mono∗ 𝓤 (factI 𝓤 φ (emp 𝓤) x) (factI 𝓤 ψ (emp 𝓤) y))
 
@@ -88,6 +89,5 @@ module _ (E R B : Data) (ν : Sym) (kept : B .D → E .D) (handed : B .D → R .
     keeps-it = λ t d n l b lies holds. field-at t 1 d n l refl (lies ∙ λ i. (shape i, l, 0)) (holds ∙ λ i. ‵ (fat fullShare (shape i) l 0 (spelled b i)));
     hands-it = λ t d n l b lies holds. field-at t 0 d n l refl (lies ∙ λ i. (shape i, l, 0)) (holds ∙ λ i. ‵ (fat fullShare (shape i) l 0 (spelled b i)));
     Says = λ 𝓤 b r e. sep 𝓤 (fact 𝓤 (r ≡ handed b)) (fact 𝓤 (e ≡ kept b));
-    says = λ 𝓤 b. both-said 𝓤 refl refl;
     hears = λ 𝓤 b r e. both-heard 𝓤 (r ≡ handed b) (e ≡ kept b);
   }

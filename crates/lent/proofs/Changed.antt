@@ -32,7 +32,7 @@ use denote.Triple.Entry.{onEntry}
 use denote.Triple.Spec.{tripleOf}
 use denote.Triple.End.{all}
 use denote.Triple.Walked.{Stays, stay-ref, walkOf, hasOf, goes-ref, ends-at, walked, walk-meets}
-use denote.Triple.Clauses.{Ended, Clauses, Lasts, ensured, closing, lasts}
+use denote.Triple.Clauses.{Ended, Clauses, Lasts, atExit, ensured, closing, lasts}
 use Rattle.lent.proofs.Data.{Data, row, makes}
 use Rattle.lent.proofs.Params.{slots, dropped, rows-at, spells, tell, vals-at, Good-at, ends, fit, Args, vals, Good, given, taken, vals-taken, given-taken, good, good-taken, make, all-go, none-had, locals, copies, after, spot-after, from-spot, alloc-all, pass-all, free-all, forget-all, copy-all, read-as}
 use Rattle.lent.proofs.ByValue.{ByValue, value, returned}
@@ -81,7 +81,12 @@ module _ (E : Data) (Ks : List Data) (Z : Answer E) (F : E .D → Args Ks → Z 
     abbrev pub Whole : Contract 𝓤
     Whole = tripleOf 𝓤 H A (lent-end .signature) (closing 𝓤 H A lent-end lent-clauses)
 
-    module _ (W : Given 𝓤 H A) (κ : Lft) (q : Share) (b o : ℕ) (γ : GName) (h : E .D) (a : Denots (rows-at 1 (κ, tt) Ks)) (are : Good-at 1 (κ, tt) Ks a) where
+    -- What the walk shows of a contract: that it says so of the answer.
+    abbrev pub Holds : Clauses 𝓤 lent-end → Type 1
+    Holds c = (κs : Lfts 1) (a : RefT (E .D) × Denots (rows-at 1 κs Ks)) (g : c κs a .ghost)
+        → ent 𝓤 (emp 𝓤) (c κs a .ensures g (Z .handed (F (now (a .0)) (given 1 κs Ks (a .1)))) (atExit lent-end κs a (Z .kept (F (now (a .0)) (given 1 κs Ks (a .1))), ends 1 κs Ks (a .1))))
+
+    module _ (c : Clauses 𝓤 lent-end) (holds : Holds c) (W : Given 𝓤 H A) (κ : Lft) (q : Share) (b o : ℕ) (γ : GName) (h : E .D) (a : Denots (rows-at 1 (κ, tt) Ks)) (are : Good-at 1 (κ, tt) Ks a) (g : c (κ, tt) (record { ptr = (b, o); name = γ; now = h }, a) .ghost) where
       abbrev x : RefT (E .D) × Denots (rows-at 1 (κ, tt) Ks)
       x = (record { ptr = (b, o); name = γ; now = h }, a)
 
@@ -89,7 +94,7 @@ module _ (E : Data) (Ks : List Data) (Z : Answer E) (F : E .D → Args Ks → Z 
       vs = (vptr b o ∷ [], valss (rows-at 1 (κ, tt) Ks) (spells 1 (κ, tt) Ks) a)
 
       abbrev Then : Val → SProp 𝓤
-      Then = walkOf 𝓤 H A lent-end stayed lent-clauses .post (((κ, tt), (q, tt), tt, x, vs), tt)
+      Then = walkOf 𝓤 H A lent-end stayed c .post (((κ, tt), (q, tt), tt, x, vs), g)
 
       -- The answer.
       abbrev z : Z .B .D
@@ -98,17 +103,17 @@ module _ (E : Data) (Ks : List Data) (Z : Answer E) (F : E .D → Args Ks → Z 
       exits : Is (row (Z .B)) z (Z .B .val z ∷ []) → ent 𝓤 (⋆ 𝓤 H A (‵ (fobs γ (E .coded .code (Z .kept z))) ∷ ‵ (fbor κ (Body (mem (row E)) b o γ)) ∷ ‵ (flft κ q) ∷ [])) (Then (Z .R .val (Z .handed z)))
       exits is =
           qed W (‵ (fobs γ (E .coded .code (Z .kept z))) ∷ ‵ (fbor κ (Body (mem (row E)) b o γ)) ∷ ‵ (flft κ q) ∷ []) ∵
-          suffices ! _ (ends-at 𝓤 H A lent-end stayed lent-clauses W (((κ, tt), (q, tt), tt, x, vs), tt) (Z .R .val (Z .handed z)) (Z .handed z) (Z .kept z, ends 1 (κ, tt) Ks a) (tt, fit 1 (κ, tt) Ks a)) $
+          suffices ! _ (ends-at 𝓤 H A lent-end stayed c W (((κ, tt), (q, tt), tt, x, vs), g) (Z .R .val (Z .handed z)) (Z .handed z) (Z .kept z, ends 1 (κ, tt) Ks a) (tt, fit 1 (κ, tt) Ks a)) $
           owned ! (row (Z .R)) (Is (row (Z .R))) (makes (Z .R) 𝓤 H A) (Z .handed z) _ (Z .handed-is z is) $
           use0 W (‵ (hasOf (κ, tt) (slots 1 Ks) (all yes (slots 1 Ks)) (dropped 1 Ks) a (ends 1 (κ, tt) Ks a) (valss (rows-at 1 (κ, tt) Ks) (spells 1 (κ, tt) Ks) a))) (none-had 𝓤 H A 1 W (κ, tt) Ks a) $
           -- [the further parameters; the result; what is behind; the borrow; its token]
           move ! (2 ∷ 3 ∷ []) $ feqI ! (List Val) (vptr b o ∷ []) (vptr b o ∷ []) refl $ fjoin3 ! $ fjoin ! $ join ! $ nothing ! $ move ! (2 ∷ 0 ∷ []) $ join ! $ join ! $
-          use0 W (raw (Z .Says 𝓤 z (Z .handed z) (Z .kept z))) (Z .says 𝓤 z) $ move ! (1 ∷ 0 ∷ []) $ done !
+          use0 W (raw (c (κ, tt) x .ensures g (Z .handed z) (atExit lent-end (κ, tt) x (Z .kept z, ends 1 (κ, tt) Ks a)))) (holds (κ, tt) x g) $ move ! (1 ∷ 0 ∷ []) $ done !
 
       module _ (C : Calls 𝓤 H) (Λ : Loops 𝓤 H) (fm : FmC 𝓤 H (W .laws) C) (f : Name) (known : Triple 𝓤 (C f) Core) where
-        walk : ent 𝓤 (sep 𝓤 (onEntry 𝓤 H A (lent-end .signature) (κ, tt) (q, tt) x vs) (emp 𝓤)) (WpFn 𝓤 H C Λ (lent-fn f) (vptr b o ∷ vals-at 1 (κ, tt) Ks a) Then)
+        walk : ent 𝓤 (sep 𝓤 (onEntry 𝓤 H A (lent-end .signature) (κ, tt) (q, tt) x vs) (c (κ, tt) x .requires g)) (WpFn 𝓤 H C Λ (lent-fn f) (vptr b o ∷ vals-at 1 (κ, tt) Ks a) Then)
         walk =
-            qed W (((‵ (flft κ q) ⊛ ‵ ftrue) ⊛ ‵ (owns (MutRef (named 0) κ (row E) ∷ rows-at 1 (κ, tt) Ks) x vs)) ∷ raw (emp 𝓤) ∷ []) ∵ split ! $ split ! $ move ! (2 ∷ []) $ fsplit ! $ fsplit3 ! $ drop ! $ keep ! (0 ∷ 1 ∷ 3 ∷ []) $
+            qed W (((‵ (flft κ q) ⊛ ‵ ftrue) ⊛ ‵ (owns (MutRef (named 0) κ (row E) ∷ rows-at 1 (κ, tt) Ks) x vs)) ∷ raw (c (κ, tt) x .requires g) ∷ []) ∵ split ! $ split ! $ move ! (2 ∷ []) $ fsplit ! $ fsplit3 ! $ drop ! $ keep ! (0 ∷ 1 ∷ 3 ∷ []) $
             -- [what is behind; the borrow; its token]
             enter ! C Λ (lent-fn f) (vptr b o ∷ vals-at 1 (κ, tt) Ks a) _ $
             alloc1 ! (λ l0. alloc1 ! (λ l1. alloc-all ! Ks _ (λ bs. alloc1 ! (λ ld. alloc1 ! (λ lc. alloc0 ! $ params1 ! $ pass1 ! (init ! 5 refl (tt, tt)) $ move ! (4 ∷ []) $ pass-all ! 1 (κ, tt) Ks a are bs _ (
@@ -126,15 +131,15 @@ module _ (E : Data) (Ks : List Data) (Z : Answer E) (F : E .D → Args Ks → Z 
             returns ! (look ! 10 refl) $ forget ! 4 refl $ forget ! 6 refl $ forget ! 8 refl $ forget ! 10 refl $ move ! (10 ∷ 11 ∷ []) $ free1 ! $ move ! (8 ∷ 9 ∷ []) $ free1 ! $
             move ! (3 ∷ []) $ forget-all ! Ks bs _ $ free-all ! Ks bs _ (move ! (5 ∷ 6 ∷ []) $ free1 ! $ move ! (3 ∷ 4 ∷ []) $ free1 ! $ free0 ! $ by ! (exits is))))))))))
 
-    pub meets : (W : Given 𝓤 H A) (𝓣 : Tables 𝓤 H) (f : Name) → Triple 𝓤 (𝓣 .C f) Core → Triple 𝓤 (WpFn 𝓤 H (𝓣 .C) (𝓣 .Λ) (lent-fn f)) Whole
-    meets W 𝓣 f known =
-        walk-meets 𝓤 H A lent-end stayed W (goes-ref 𝓤 H A W 1 0 tt (plain (λ _. row E)), all-go 𝓤 H A 1 W Ks) lent-clauses (WpFn 𝓤 H (𝓣 .C) (𝓣 .Λ) (lent-fn f)) (WpFn-mono 𝓤 H (W .laws) 𝓣 (lent-fn f))
-        (walked 𝓤 H A lent-end stayed lent-clauses (WpFn 𝓤 H (𝓣 .C) (𝓣 .Λ) (lent-fn f)) (λ κs. (ptr-vals, spells 1 κs Ks)) (λ κs. (mut-tells (named 0) (κs .0) (row E), tell 1 κs Ks))
-        (λ κs qs bounds a g are. walk W (κs .0) (qs .0) (a .0 .ptr .0) (a .0 .ptr .1) (a .0 .name) (a .0 .now) (a .1) (are .1) (𝓣 .C) (𝓣 .Λ) (fmOf 𝓤 H (W .laws) 𝓣) f known))
+    meets : (c : Clauses 𝓤 lent-end) → Holds c → (W : Given 𝓤 H A) (𝓣 : Tables 𝓤 H) (f : Name) → Triple 𝓤 (𝓣 .C f) Core → Triple 𝓤 (WpFn 𝓤 H (𝓣 .C) (𝓣 .Λ) (lent-fn f)) (tripleOf 𝓤 H A (lent-end .signature) (closing 𝓤 H A lent-end c))
+    meets c holds W 𝓣 f known =
+        walk-meets 𝓤 H A lent-end stayed W (goes-ref 𝓤 H A W 1 0 tt (plain (λ _. row E)), all-go 𝓤 H A 1 W Ks) c (WpFn 𝓤 H (𝓣 .C) (𝓣 .Λ) (lent-fn f)) (WpFn-mono 𝓤 H (W .laws) 𝓣 (lent-fn f))
+        (walked 𝓤 H A lent-end stayed c (WpFn 𝓤 H (𝓣 .C) (𝓣 .Λ) (lent-fn f)) (λ κs. (ptr-vals, spells 1 κs Ks)) (λ κs. (mut-tells (named 0) (κs .0) (row E), tell 1 κs Ks))
+        (λ κs qs bounds a g are. walk c holds W (κs .0) (qs .0) (a .0 .ptr .0) (a .0 .ptr .1) (a .0 .name) (a .0 .now) (a .1) (are .1) g (𝓣 .C) (𝓣 .Λ) (fmOf 𝓤 H (W .laws) 𝓣) f known))
 
   module _ {M : Type 1} (𝓤 : URA M) (H : Heap 𝓤) (𝓜 : Model 𝓤 H) (𝓖 : GhostRules 𝓤 H) (𝓡 : Running 𝓤 H 𝓜) (env : Env) (g f : Name) (unfolded : Closed 𝓤 H (tables 𝓤 H 𝓜 𝓡 env .C) (tables 𝓤 H 𝓜 𝓡 env .Λ) g (lent-fn f)) (callee : Routine) (calls : env f ≡ callee) where
-    pub spec : Triple 𝓤 (𝓡 .run callee) (Core 𝓤 H (𝓖 .A)) → Triple 𝓤 (tables 𝓤 H 𝓜 𝓡 env .C g) (Whole 𝓤 H (𝓖 .A))
-    spec = stands 𝓤 H 𝓜 𝓖 𝓡 env g f (lent-fn f) unfolded callee calls (Core 𝓤 H (𝓖 .A)) (Whole 𝓤 H (𝓖 .A)) (λ W 𝓣. meets 𝓤 H (𝓖 .A) W 𝓣 f)
+    pub spec : Triple 𝓤 (𝓡 .run callee) (Core 𝓤 H (𝓖 .A)) → (c : Clauses 𝓤 lent-end) → Holds 𝓤 H (𝓖 .A) c → Triple 𝓤 (tables 𝓤 H 𝓜 𝓡 env .C g) (tripleOf 𝓤 H (𝓖 .A) (lent-end .signature) (closing 𝓤 H (𝓖 .A) lent-end c))
+    spec met c holds = stands 𝓤 H 𝓜 𝓖 𝓡 env g f (lent-fn f) unfolded callee calls (Core 𝓤 H (𝓖 .A)) (tripleOf 𝓤 H (𝓖 .A) (lent-end .signature) (closing 𝓤 H (𝓖 .A) lent-end c)) (λ W 𝓣. meets 𝓤 H (𝓖 .A) c holds W 𝓣 f) met
 
   -- ---- for a caller, which lends its local l: the cell comes back with what was put behind the reference
   module _ {M : Type 1} (𝓤 : URA M) (H : Heap 𝓤) (A : Atoms 𝓤) (l : ℕ) (h : E .D) (ks : Args Ks) (ν : ℕ) (γ : GName) where

@@ -13,6 +13,7 @@ use prog.Routine.{Routine, Env}
 use prog.Model.{Model}
 use prog.Wp.{Heap, Env as Frame, Calls, Loops, WpFn, Tables, Closed}
 use ghost.Atoms.{Atoms}
+use contract.Lifetimes.{Lfts}
 use contract.Monad.{fact}
 use contract.Running.{GhostRules, Running, tables}
 use types.Kit.{Given, Item, group, Seq, Post as Ends, runs, lands, ‵, raw, _⊛_, ⋆, some, later, _$_, _∵_, !, qed, by, move, keep, drop, use0, use1, split, join, pick, fsplit, fsplit3, fjoin, fjoin3, feqI, feqL, suffices, rewrite, await, done}
@@ -34,9 +35,9 @@ use denote.Triple.Call.{calls-at}
 use denote.Triple.Entry.{onEntry}
 use denote.Triple.Spec.{tripleOf}
 use denote.Triple.Walked.{Stays, stay-ref, gave-slice, walkOf, goes-ref, goes-gave-slice, ends-at, walked, walk-meets}
-use denote.Triple.Clauses.{Ended, Clauses, ensured, closing, lasts}
+use denote.Triple.Clauses.{Ended, Clauses, atExit, ensured, closing, lasts}
 use Rattle.lent.proofs.Data.{Data, row, makes, of-unit}
-use Rattle.lent.proofs.Answers.{both-said, both-heard}
+use Rattle.lent.proofs.Answers.{both-heard}
 use Rattle.lent.proofs.ByValue.{returned}
 use Rattle.lent.proofs.Thin.{stands}
 use Rattle.lent.proofs.Lending.{to-local, taken-out, put-back, lends, comes-home}
@@ -116,7 +117,12 @@ module _ (E F : Data) (G : E .D → List (F .D) → E .D) (S : E .D → List (F 
     abbrev pub Whole : Contract 𝓤
     Whole = tripleOf 𝓤 H A (lent-end .signature) (closing 𝓤 H A lent-end lent-clauses)
 
-    module _ (W : Given 𝓤 H A) (κ κ′ : Lft) (q q′ : Share) (b o : ℕ) (γ : GName) (h : E .D) (b′ o′ : ℕ) (γ′ : GName) (ys : List (F .D)) (room : Room (row F) (length ys)) where
+    -- What the walk shows of a contract: that it says so of the struct and the slice afterwards.
+    abbrev pub Holds : Clauses 𝓤 lent-end → Type 1
+    Holds c = (κs : Lfts 2) (a : RefT (E .D) × (RefT (List (F .D)) × Unit {0})) (g : c κs a .ghost) → ent 𝓤 (emp 𝓤) (c κs a .ensures g tt (atExit lent-end κs a (G (now (a .0)) (now (a .1 .0)), (S (now (a .0)) (now (a .1 .0)), tt))))
+
+    module _ (c : Clauses 𝓤 lent-end) (holds : Holds c) (W : Given 𝓤 H A) (κ κ′ : Lft) (q q′ : Share) (b o : ℕ) (γ : GName) (h : E .D) (b′ o′ : ℕ) (γ′ : GName) (ys : List (F .D)) (room : Room (row F) (length ys))
+        (g : c (κ, (κ′, tt)) (record { ptr = (b, o); name = γ; now = h }, (sliced b′ o′ γ′ ys, tt)) .ghost) where
       abbrev out : RefT (List (F .D))
       out = sliced b′ o′ γ′ ys
 
@@ -130,20 +136,21 @@ module _ (E F : Data) (G : E .D → List (F .D) → E .D) (S : E .D → List (F 
       vs = (vptr b o ∷ [], (s ∷ [], tt))
 
       abbrev Then : Val → SProp 𝓤
-      Then = walkOf 𝓤 H A lent-end stayed lent-clauses .post (((κ, (κ′, tt)), (q, (q′, tt)), tt, x, vs), tt)
+      Then = walkOf 𝓤 H A lent-end stayed c .post (((κ, (κ′, tt)), (q, (q′, tt)), tt, x, vs), g)
 
       exits : length (S h ys) ≡ length ys
           → ent 𝓤 (⋆ 𝓤 H A (‵ (fobs γ (E .coded .code (G h ys))) ∷ ‵ (fbor κ (Body (mem (row E)) b o γ)) ∷ ‵ (flft κ q) ∷ ‵ (flft κ′ q′) ∷ ‵ (finally (row F) γ′ (S h ys)) ∷ [])) (Then vunit)
       exits long =
           qed W (‵ (fobs γ (E .coded .code (G h ys))) ∷ ‵ (fbor κ (Body (mem (row E)) b o γ)) ∷ ‵ (flft κ q) ∷ ‵ (flft κ′ q′) ∷ ‵ (finally (row F) γ′ (S h ys)) ∷ []) ∵
-          suffices ! _ (ends-at 𝓤 H A lent-end stayed lent-clauses W (((κ, (κ′, tt)), (q, (q′, tt)), tt, x, vs), tt) vunit tt (G h ys, (S h ys, tt)) (tt, (long, tt))) $
+          suffices ! _ (ends-at 𝓤 H A lent-end stayed c W (((κ, (κ′, tt)), (q, (q′, tt)), tt, x, vs), g) vunit tt (G h ys, (S h ys, tt)) (tt, (long, tt))) $
           feqI ! (List Val) (vunit ∷ []) (vunit ∷ []) refl $ nothing ! $ move ! (6 ∷ 0 ∷ []) $ fjoin ! $ move ! (2 ∷ 3 ∷ []) $ feqI ! (List Val) (vptr b o ∷ []) (vptr b o ∷ []) refl $ fjoin3 ! $ fjoin ! $
-          join ! $ nothing ! $ move ! (3 ∷ 0 ∷ []) $ join ! $ move ! (2 ∷ 0 ∷ []) $ join ! $ join ! $ use0 W (raw (Fills 𝓤 H A h ys (G h ys) (S h ys))) (both-said 𝓤 refl refl) $ move ! (1 ∷ 0 ∷ []) $ done !
+          join ! $ nothing ! $ move ! (3 ∷ 0 ∷ []) $ join ! $ move ! (2 ∷ 0 ∷ []) $ join ! $ join ! $
+          use0 W (raw (c (κ, (κ′, tt)) x .ensures g tt (atExit lent-end (κ, (κ′, tt)) x (G h ys, (S h ys, tt))))) (holds (κ, (κ′, tt)) x g) $ move ! (1 ∷ 0 ∷ []) $ done !
 
       module _ (C : Calls 𝓤 H) (Λ : Loops 𝓤 H) (fm : FmC 𝓤 H (W .laws) C) (f : Name) (known : Triple 𝓤 (C f) (Core 𝓤 H A)) where
-        walk : ent 𝓤 (sep 𝓤 (onEntry 𝓤 H A (lent-end .signature) (κ, (κ′, tt)) (q, (q′, tt)) x vs) (emp 𝓤)) (WpFn 𝓤 H C Λ (lent-fn f) (vptr b o ∷ s ∷ []) Then)
+        walk : ent 𝓤 (sep 𝓤 (onEntry 𝓤 H A (lent-end .signature) (κ, (κ′, tt)) (q, (q′, tt)) x vs) (c (κ, (κ′, tt)) x .requires g)) (WpFn 𝓤 H C Λ (lent-fn f) (vptr b o ∷ s ∷ []) Then)
         walk =
-            qed W (((‵ (flft κ q) ⊛ (‵ (flft κ′ q′) ⊛ ‵ ftrue)) ⊛ ‵ (owns (MutRef (named 0) κ (row E) ∷ MutSlice (named 1) κ′ (row F) ∷ []) x vs)) ∷ raw (emp 𝓤) ∷ []) ∵ split ! $ split ! $ move ! (1 ∷ []) $ split ! $ move ! (3 ∷ []) $ fsplit ! $ fsplit3 ! $ drop ! $
+            qed W (((‵ (flft κ q) ⊛ (‵ (flft κ′ q′) ⊛ ‵ ftrue)) ⊛ ‵ (owns (MutRef (named 0) κ (row E) ∷ MutSlice (named 1) κ′ (row F) ∷ []) x vs)) ∷ raw (c (κ, (κ′, tt)) x .requires g) ∷ []) ∵ split ! $ split ! $ move ! (1 ∷ []) $ split ! $ move ! (3 ∷ []) $ fsplit ! $ fsplit3 ! $ drop ! $
             move ! (2 ∷ []) $ fsplit ! $ keep ! (2 ∷ 3 ∷ 6 ∷ 0 ∷ 4 ∷ []) $
             -- [what is behind; the borrow; its token; the slice; its token]
             enter ! C Λ (lent-fn f) (vptr b o ∷ s ∷ []) _ $
@@ -162,16 +169,15 @@ module _ (E F : Data) (G : E .D → List (F .D) → E .D) (S : E .D → List (F 
             returns ! (look ! 17 refl) $ forget ! 5 refl $ forget ! 7 refl $ forget ! 9 refl $ forget ! 11 refl $ forget ! 13 refl $ forget ! 15 refl $ forget ! 17 refl $
             move ! (17 ∷ 18 ∷ []) $ free1 ! $ move ! (15 ∷ 16 ∷ []) $ free1 ! $ move ! (13 ∷ 14 ∷ []) $ free1 ! $ move ! (11 ∷ 12 ∷ []) $ free1 ! $ move ! (9 ∷ 10 ∷ []) $ free1 ! $ move ! (7 ∷ 8 ∷ []) $ free1 ! $ move ! (5 ∷ 6 ∷ []) $ free1 ! $ free0 ! $ by ! (exits long))))))))))
 
-    meets : (W : Given 𝓤 H A) (𝓣 : Tables 𝓤 H) (f : Name) → Triple 𝓤 (𝓣 .C f) (Core 𝓤 H A) → Triple 𝓤 (WpFn 𝓤 H (𝓣 .C) (𝓣 .Λ) (lent-fn f)) Whole
-    meets W 𝓣 f known =
-        walk-meets 𝓤 H A lent-end stayed W (goes-ref 𝓤 H A W 2 0 tt (plain (λ _. row E)), (goes-gave-slice 𝓤 H A W 2 1 tt (plain (λ _. row F)), tt)) lent-clauses
-        (WpFn 𝓤 H (𝓣 .C) (𝓣 .Λ) (lent-fn f)) (WpFn-mono 𝓤 H (W .laws) 𝓣 (lent-fn f))
-        (walked 𝓤 H A lent-end stayed lent-clauses (WpFn 𝓤 H (𝓣 .C) (𝓣 .Λ) (lent-fn f)) (λ κs. (ptr-vals, (slice-vals, tt))) (λ κs. (mut-tells (named 0) (κs .0) (row E), (mut-slice-tells (named 1) (κs .1 .0) (row F), tt)))
-        (λ κs qs bounds a g are. walk W (κs .0) (κs .1 .0) (qs .0) (qs .1 .0) (a .0 .ptr .0) (a .0 .ptr .1) (a .0 .name) (a .0 .now) (a .1 .0 .ptr .0) (a .1 .0 .ptr .1) (a .1 .0 .name) (a .1 .0 .now) (are .1 .0 .0 .1) (𝓣 .C) (𝓣 .Λ) (fmOf 𝓤 H (W .laws) 𝓣) f known))
+    meets : (c : Clauses 𝓤 lent-end) → Holds c → (W : Given 𝓤 H A) (𝓣 : Tables 𝓤 H) (f : Name) → Triple 𝓤 (𝓣 .C f) (Core 𝓤 H A) → Triple 𝓤 (WpFn 𝓤 H (𝓣 .C) (𝓣 .Λ) (lent-fn f)) (tripleOf 𝓤 H A (lent-end .signature) (closing 𝓤 H A lent-end c))
+    meets c holds W 𝓣 f known =
+        walk-meets 𝓤 H A lent-end stayed W (goes-ref 𝓤 H A W 2 0 tt (plain (λ _. row E)), (goes-gave-slice 𝓤 H A W 2 1 tt (plain (λ _. row F)), tt)) c (WpFn 𝓤 H (𝓣 .C) (𝓣 .Λ) (lent-fn f)) (WpFn-mono 𝓤 H (W .laws) 𝓣 (lent-fn f))
+        (walked 𝓤 H A lent-end stayed c (WpFn 𝓤 H (𝓣 .C) (𝓣 .Λ) (lent-fn f)) (λ κs. (ptr-vals, (slice-vals, tt))) (λ κs. (mut-tells (named 0) (κs .0) (row E), (mut-slice-tells (named 1) (κs .1 .0) (row F), tt)))
+        (λ κs qs bounds a g are. walk c holds W (κs .0) (κs .1 .0) (qs .0) (qs .1 .0) (a .0 .ptr .0) (a .0 .ptr .1) (a .0 .name) (a .0 .now) (a .1 .0 .ptr .0) (a .1 .0 .ptr .1) (a .1 .0 .name) (a .1 .0 .now) (are .1 .0 .0 .1) g (𝓣 .C) (𝓣 .Λ) (fmOf 𝓤 H (W .laws) 𝓣) f known))
 
   module _ {M : Type 1} (𝓤 : URA M) (H : Heap 𝓤) (𝓜 : Model 𝓤 H) (𝓖 : GhostRules 𝓤 H) (𝓡 : Running 𝓤 H 𝓜) (env : Env) (g f : Name) (unfolded : Closed 𝓤 H (tables 𝓤 H 𝓜 𝓡 env .C) (tables 𝓤 H 𝓜 𝓡 env .Λ) g (lent-fn f)) (callee : Routine) (calls : env f ≡ callee) where
-    pub spec : Triple 𝓤 (𝓡 .run callee) (Core 𝓤 H (𝓖 .A)) → Triple 𝓤 (tables 𝓤 H 𝓜 𝓡 env .C g) (Whole 𝓤 H (𝓖 .A))
-    spec = stands 𝓤 H 𝓜 𝓖 𝓡 env g f (lent-fn f) unfolded callee calls (Core 𝓤 H (𝓖 .A)) (Whole 𝓤 H (𝓖 .A)) (λ W 𝓣. meets 𝓤 H (𝓖 .A) W 𝓣 f)
+    pub spec : Triple 𝓤 (𝓡 .run callee) (Core 𝓤 H (𝓖 .A)) → (c : Clauses 𝓤 lent-end) → Holds 𝓤 H (𝓖 .A) c → Triple 𝓤 (tables 𝓤 H 𝓜 𝓡 env .C g) (tripleOf 𝓤 H (𝓖 .A) (lent-end .signature) (closing 𝓤 H (𝓖 .A) lent-end c))
+    spec met c holds = stands 𝓤 H 𝓜 𝓖 𝓡 env g f (lent-fn f) unfolded callee calls (Core 𝓤 H (𝓖 .A)) (tripleOf 𝓤 H (𝓖 .A) (lent-end .signature) (closing 𝓤 H (𝓖 .A) lent-end c)) (λ W 𝓣. meets 𝓤 H (𝓖 .A) c holds W 𝓣 f) met
 
   -- ---- for a caller, which lends its local l, and lends its own `&mut` slice again
   module _ {M : Type 1} (𝓤 : URA M) (H : Heap 𝓤) (A : Atoms 𝓤) (l : ℕ) (h : E .D) (b o : ℕ) (ys : List (F .D)) (ν ν′ : ℕ) (γ δ : GName) where

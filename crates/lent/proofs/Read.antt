@@ -12,9 +12,10 @@ use prog.Routine.{Routine, Env}
 use prog.Model.{Model}
 use prog.Wp.{Heap, Env as Frame, Calls, Loops, WpFn, Tables, Closed}
 use ghost.Atoms.{Atoms, sem}
+use contract.Lifetimes.{Lfts}
 use contract.Monad.{fact}
 use contract.Running.{GhostRules, Running, tables}
-use types.Kit.{Given, Item, Seq, Post as Ends, runs, lands, some, later, pick, await, use1, ‵, raw, _⊛_, ⋆, _$_, _∵_, !, qed, by, move, keep, drop, split, join, fsplit, fsplit3, fjoin, suffices, done}
+use types.Kit.{Given, Item, Seq, Post as Ends, runs, lands, some, later, pick, await, use0, use1, ‵, raw, _⊛_, ⋆, _$_, _∵_, !, qed, by, move, keep, drop, split, join, fsplit, fsplit3, fjoin, suffices, done}
 use types.Run.{Opds, look, look-raw, init, forget, stop, hop, from, load, and-then, no-more, of-opd, land, assigns, returns, enter, alloc1, alloc0, params1, pass1, pass0, free1, free0}
 use sound.WpLaws.{FmC, fmOf, WpFn-mono}
 use denote.RattleType.{owns}
@@ -29,15 +30,15 @@ use denote.Triple.Statement.{Contract, Triple}
 use denote.Triple.Call.{calls-at}
 use denote.Triple.Entry.{onEntry}
 use denote.Triple.Spec.{tripleOf}
-use denote.Triple.Walked.{Stays, stay-dropped, walkOf, goes-dropped, says, ends-at, walked, walk-meets}
-use denote.Triple.Clauses.{Ended, Clauses, ensured, closing, lasts}
+use denote.Triple.Walked.{Stays, stay-dropped, walkOf, goes-dropped, ends-at, walked, walk-meets}
+use denote.Triple.Clauses.{Ended, Clauses, atExit, ensured, closing, lasts}
 use Rattle.lent.proofs.Data.{Data, row, makes, copies}
 use Rattle.lent.proofs.ByValue.{ByValue, value, returned}
 use Rattle.lent.proofs.Thin.{stands}
 use Rattle.lent.proofs.Lending.{to-local, shows-it, was-shown}
 
 module _ (E R : Data) (F : E .D → R .D) where
-  abbrev lent-end : Ended
+  abbrev pub lent-end : Ended
   lent-end = record {
     signature = record { lifetimes = 1; outlives = []; params = shrRefTo (0 ∷ []) tt (plain (λ _. row E)) ∷ []; result = plain (λ _. row R) };
     kept = (yes, tt);
@@ -68,7 +69,11 @@ module _ (E R : Data) (F : E .D → R .D) where
     abbrev pub Whole : Contract 𝓤
     Whole = tripleOf 𝓤 H A (lent-end .signature) (closing 𝓤 H A lent-end lent-clauses)
 
-    module _ (W : Given 𝓤 H A) (κ : Lft) (q : Share) (b o : ℕ) (γ : GName) (h : E .D) where
+    -- What the walk shows of a contract: that it says so of the answer.
+    abbrev pub Holds : Clauses 𝓤 lent-end → Type 1
+    Holds c = (κs : Lfts 1) (a : RefT (E .D) × Unit {0}) (g : c κs a .ghost) → ent 𝓤 (emp 𝓤) (c κs a .ensures g (F (now (a .0))) (atExit lent-end κs a (tt, tt)))
+
+    module _ (c : Clauses 𝓤 lent-end) (holds : Holds c) (W : Given 𝓤 H A) (κ : Lft) (q : Share) (b o : ℕ) (γ : GName) (h : E .D) (g : c (κ, tt) (record { ptr = (b, o); name = γ; now = h }, tt) .ghost) where
       abbrev x : RefT (E .D) × Unit {0}
       x = (record { ptr = (b, o); name = γ; now = h }, tt)
 
@@ -76,17 +81,18 @@ module _ (E R : Data) (F : E .D → R .D) where
       vs = (vptr b o ∷ [], tt)
 
       abbrev Then : Val → SProp 𝓤
-      Then = walkOf 𝓤 H A lent-end stayed lent-clauses .post (((κ, tt), (q, tt), tt, x, vs), tt)
+      Then = walkOf 𝓤 H A lent-end stayed c .post (((κ, tt), (q, tt), tt, x, vs), g)
 
       exits : Is (row R) (F h) (R .val (F h) ∷ []) → ent 𝓤 (⋆ 𝓤 H A (‵ (flft κ q) ∷ [])) (Then (R .val (F h)))
       exits is =
-          qed W (‵ (flft κ q) ∷ []) ∵ suffices ! _ (ends-at 𝓤 H A lent-end stayed lent-clauses W (((κ, tt), (q, tt), tt, x, vs), tt) (R .val (F h)) (F h) (tt, tt) (tt, tt)) $ says ! refl $
-          owned ! (row R) (Is (row R)) (makes R 𝓤 H A) (F h) _ is $ nothing ! $ nothing ! $ fjoin ! $ join ! $ nothing ! $ move ! (2 ∷ 0 ∷ []) $ join ! $ done !
+          qed W (‵ (flft κ q) ∷ []) ∵ suffices ! _ (ends-at 𝓤 H A lent-end stayed c W (((κ, tt), (q, tt), tt, x, vs), g) (R .val (F h)) (F h) (tt, tt) (tt, tt)) $
+          owned ! (row R) (Is (row R)) (makes R 𝓤 H A) (F h) _ is $ nothing ! $ nothing ! $ fjoin ! $ join ! $ nothing ! $ move ! (2 ∷ 0 ∷ []) $ join ! $ join ! $
+          use0 W (raw (c (κ, tt) x .ensures g (F h) (atExit lent-end (κ, tt) x (tt, tt)))) (holds (κ, tt) x g) $ move ! (1 ∷ 0 ∷ []) $ done !
 
       module _ (C : Calls 𝓤 H) (Λ : Loops 𝓤 H) (fm : FmC 𝓤 H (W .laws) C) (f : Name) (known : Triple 𝓤 (C f) Core) where
-        walk : ent 𝓤 (sep 𝓤 (onEntry 𝓤 H A (lent-end .signature) (κ, tt) (q, tt) x vs) (emp 𝓤)) (WpFn 𝓤 H C Λ (lent-fn f) (vptr b o ∷ []) Then)
+        walk : ent 𝓤 (sep 𝓤 (onEntry 𝓤 H A (lent-end .signature) (κ, tt) (q, tt) x vs) (c (κ, tt) x .requires g)) (WpFn 𝓤 H C Λ (lent-fn f) (vptr b o ∷ []) Then)
         walk =
-            qed W (((‵ (flft κ q) ⊛ ‵ ftrue) ⊛ ‵ (owns (ShrRef (named 0) κ (row E) ∷ []) x vs)) ∷ raw (emp 𝓤) ∷ []) ∵ split ! $ split ! $ move ! (2 ∷ []) $ fsplit ! $ fsplit3 ! $ drop ! $ keep ! (1 ∷ 3 ∷ []) $
+            qed W (((‵ (flft κ q) ⊛ ‵ ftrue) ⊛ ‵ (owns (ShrRef (named 0) κ (row E) ∷ []) x vs)) ∷ raw (c (κ, tt) x .requires g) ∷ []) ∵ split ! $ split ! $ move ! (2 ∷ []) $ fsplit ! $ fsplit3 ! $ drop ! $ keep ! (1 ∷ 3 ∷ []) $
             -- [the shared borrow; its token]
             enter ! C Λ (lent-fn f) (vptr b o ∷ []) _ $ alloc1 ! (λ l0. alloc1 ! (λ l1. alloc1 ! (λ l2. alloc0 ! $ params1 ! $ pass1 ! (init ! 2 refl (tt, tt)) $ pass0 ! $
             move ! (6 ∷ 7 ∷ []) $ looks ! tt (row E) (Is (row E)) (shows 𝓤 H A (row E)) (λ d. E .val d ∷ []) (E .tells) (copies E 𝓤 H A W) h b o (λ q′ us.
@@ -99,15 +105,15 @@ module _ (E R : Data) (F : E .D → R .D) where
             land ! (from ! (stop !)) (init ! 6 refl (R .typed 𝓤 H A W (F h) _ is .0)) $ returns ! (look ! 6 refl) $ forget ! 2 refl $ forget ! 4 refl $ forget ! 6 refl $
             move ! (6 ∷ 7 ∷ []) $ free1 ! $ move ! (4 ∷ 5 ∷ []) $ free1 ! $ move ! (2 ∷ 3 ∷ []) $ free1 ! $ free0 ! $ keep ! (0 ∷ []) $ by ! (exits is)))))))
 
-    meets : (W : Given 𝓤 H A) (𝓣 : Tables 𝓤 H) (f : Name) → Triple 𝓤 (𝓣 .C f) Core → Triple 𝓤 (WpFn 𝓤 H (𝓣 .C) (𝓣 .Λ) (lent-fn f)) Whole
-    meets W 𝓣 f known =
-        walk-meets 𝓤 H A lent-end stayed W (goes-dropped 𝓤 H A W 1 (shrRefTo (0 ∷ []) tt (plain (λ _. row E))) yes (λ κs y g. refl), tt) lent-clauses (WpFn 𝓤 H (𝓣 .C) (𝓣 .Λ) (lent-fn f)) (WpFn-mono 𝓤 H (W .laws) 𝓣 (lent-fn f))
-        (walked 𝓤 H A lent-end stayed lent-clauses (WpFn 𝓤 H (𝓣 .C) (𝓣 .Λ) (lent-fn f)) (λ κs. (ptr-vals, tt)) (λ κs. (shr-tells (named 0) (κs .0) (row E), tt))
-        (λ κs qs bounds a g are. walk W (κs .0) (qs .0) (a .0 .ptr .0) (a .0 .ptr .1) (a .0 .name) (a .0 .now) (𝓣 .C) (𝓣 .Λ) (fmOf 𝓤 H (W .laws) 𝓣) f known))
+    meets : (c : Clauses 𝓤 lent-end) → Holds c → (W : Given 𝓤 H A) (𝓣 : Tables 𝓤 H) (f : Name) → Triple 𝓤 (𝓣 .C f) Core → Triple 𝓤 (WpFn 𝓤 H (𝓣 .C) (𝓣 .Λ) (lent-fn f)) (tripleOf 𝓤 H A (lent-end .signature) (closing 𝓤 H A lent-end c))
+    meets c holds W 𝓣 f known =
+        walk-meets 𝓤 H A lent-end stayed W (goes-dropped 𝓤 H A W 1 (shrRefTo (0 ∷ []) tt (plain (λ _. row E))) yes (λ κs y z. refl), tt) c (WpFn 𝓤 H (𝓣 .C) (𝓣 .Λ) (lent-fn f)) (WpFn-mono 𝓤 H (W .laws) 𝓣 (lent-fn f))
+        (walked 𝓤 H A lent-end stayed c (WpFn 𝓤 H (𝓣 .C) (𝓣 .Λ) (lent-fn f)) (λ κs. (ptr-vals, tt)) (λ κs. (shr-tells (named 0) (κs .0) (row E), tt))
+        (λ κs qs bounds a g are. walk c holds W (κs .0) (qs .0) (a .0 .ptr .0) (a .0 .ptr .1) (a .0 .name) (a .0 .now) g (𝓣 .C) (𝓣 .Λ) (fmOf 𝓤 H (W .laws) 𝓣) f known))
 
   module _ {M : Type 1} (𝓤 : URA M) (H : Heap 𝓤) (𝓜 : Model 𝓤 H) (𝓖 : GhostRules 𝓤 H) (𝓡 : Running 𝓤 H 𝓜) (env : Env) (g f : Name) (unfolded : Closed 𝓤 H (tables 𝓤 H 𝓜 𝓡 env .C) (tables 𝓤 H 𝓜 𝓡 env .Λ) g (lent-fn f)) (callee : Routine) (calls : env f ≡ callee) where
-    pub spec : Triple 𝓤 (𝓡 .run callee) (Core 𝓤 H (𝓖 .A)) → Triple 𝓤 (tables 𝓤 H 𝓜 𝓡 env .C g) (Whole 𝓤 H (𝓖 .A))
-    spec = stands 𝓤 H 𝓜 𝓖 𝓡 env g f (lent-fn f) unfolded callee calls (Core 𝓤 H (𝓖 .A)) (Whole 𝓤 H (𝓖 .A)) (λ W 𝓣. meets 𝓤 H (𝓖 .A) W 𝓣 f)
+    pub spec : Triple 𝓤 (𝓡 .run callee) (Core 𝓤 H (𝓖 .A)) → (c : Clauses 𝓤 lent-end) → Holds 𝓤 H (𝓖 .A) c → Triple 𝓤 (tables 𝓤 H 𝓜 𝓡 env .C g) (tripleOf 𝓤 H (𝓖 .A) (lent-end .signature) (closing 𝓤 H (𝓖 .A) lent-end c))
+    spec met c holds = stands 𝓤 H 𝓜 𝓖 𝓡 env g f (lent-fn f) unfolded callee calls (Core 𝓤 H (𝓖 .A)) (tripleOf 𝓤 H (𝓖 .A) (lent-end .signature) (closing 𝓤 H (𝓖 .A) lent-end c)) (λ W 𝓣. meets 𝓤 H (𝓖 .A) c holds W 𝓣 f) met
 
   -- ---- for a caller, which lends its local l
   module _ {M : Type 1} (𝓤 : URA M) (H : Heap 𝓤) (A : Atoms 𝓤) (l : ℕ) (h : E .D) (ν : ℕ) (γ : GName) where

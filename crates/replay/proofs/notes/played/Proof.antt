@@ -15,7 +15,7 @@ use prog.Routine.{Env}
 use prog.Model.{Model}
 use prog.Wp.{Heap, Calls, Loops, WpFn, Tables, Closed}
 use ghost.Atoms.{Atoms}
-use contract.Monad.{fact}
+use contract.Lifetimes.{Lfts}
 use contract.Running.{GhostRules, Running, givenOf, tables, tablesOf}
 use types.Kit.{Given, ‵, raw, _⊛_, ⋆, _$_, _∵_, !, qed, by, move, keep, drop, use0, split, join, fsplit, fjoin, rewrite, suffices, done}
 use types.Run.{look, init, store, stop, hop, fld, from, load, addr, of-opd, and-then, no-more, assigns, land, returns, enter, alloc1, alloc0, params1, pass1, pass0, free0}
@@ -30,12 +30,12 @@ use denote.Signature.{plain, mutSliceOf}
 use denote.Struct.Laws.{owes}
 use denote.Steps.{owned, nothing}
 use denote.Exit.{yes}
-use denote.Triple.Statement.{Contract, Triple}
+use denote.Triple.Statement.{Triple}
 use denote.Triple.Entry.{onEntry}
 use denote.Triple.Spec.{tripleOf}
 use denote.Triple.Table.{entered, cited}
 use denote.Triple.Walked.{Stays, stay-dropped, stay-slice, walkOf, goes-dropped, goes-slice, ends-at, walked, walk-meets}
-use denote.Triple.Clauses.{Ended, Clauses, closing}
+use denote.Triple.Clauses.{Ended, Clauses, atExit, closing}
 use Rattle.lent.proofs.Data.{Data, row, makes}
 use Rattle.lent.proofs.Answers.{Answer, itself, both-said}
 use Rattle.lent.proofs.Lending.{freed}
@@ -64,6 +64,7 @@ use Rattle.replay.specs.declared.notes.Note.{Note}
 use Rattle.replay.proofs.notes.Note as N
 use Rattle.replay.proofs.notes.Note.Laws as N′
 use Rattle.replay.proofs.Types.{note}
+use Rattle.replay.proofs.notes.played as f
 use Rattle.replay.proofs.notes.played.Key as key
 use Rattle.replay.proofs.notes.played.Statement.{statement}
 use Rattle.replay.proofs.notes.played.Code as code
@@ -129,15 +130,10 @@ module _ (E K P T L R : Data) (Z Y : Answer E) (Trigger : E .D → K .D → E .D
   told x p t = make (Z .handed (SetParams x p)) (Z .handed (SetTiming (set x p) t)) (Y .handed (NextLevel (timed x p t))) (lifted x p t)
 
   module _ {M : Type 1} (𝓤 : URA M) (H : Heap 𝓤) (A : Atoms 𝓤) where
-    abbrev played-clauses : Clauses 𝓤 played-end
-    played-clauses κs a = record {
-      ghost = Unit {0};
-      requires = λ _. emp 𝓤;
-      ensures = λ _ r z. sep 𝓤 (fact 𝓤 (now (z .1 .1 .0) ≡ Levels (struck (a .0) (a .1 .0)) (now (a .1 .1 .0)))) (fact 𝓤 (r ≡ told (After (struck (a .0) (a .1 .0)) (now (a .1 .1 .0))) (a .1 .1 .1 .0) (a .1 .1 .1 .1 .0)));
-    }
-
-    abbrev Played : Contract 𝓤
-    Played = tripleOf 𝓤 H A (played-end .signature) (closing 𝓤 H A played-end played-clauses)
+    -- What the walk shows of a contract: that it says so of the answer and of the block.
+    abbrev Holds : Clauses 𝓤 played-end → Type 1
+    Holds c = (κs : Lfts 1) (a : E .D × (K .D × (RefT (List (L .D)) × (P .D × (T .D × Unit {0}))))) (g : c κs a .ghost)
+        → ent 𝓤 (emp 𝓤) (c κs a .ensures g (told (After (struck (a .0) (a .1 .0)) (now (a .1 .1 .0))) (a .1 .1 .1 .0) (a .1 .1 .1 .1 .0)) (atExit played-end κs a (tt, (tt, (Levels (struck (a .0) (a .1 .0)) (now (a .1 .1 .0)), (tt, (tt, tt)))))))
 
     -- What is known of the functions that it calls.
     abbrev Known : Calls 𝓤 H → (reset trigger process set-params set-timing next-level release : Name) → Type 1
@@ -145,8 +141,9 @@ module _ (E K P T L R : Data) (Z Y : Answer E) (Trigger : E .D → K .D → E .D
         × (Triple 𝓤 (C process) (Filled.Whole E L After Levels 𝓤 H A) × (Triple 𝓤 (C set-params) (Changed.Whole E (P ∷ []) Z (λ x ks. SetParams x (ks .0)) 𝓤 H A) × (Triple 𝓤 (C set-timing) (Changed.Whole E (T ∷ []) Z (λ x ks. SetTiming x (ks .0)) 𝓤 H A)
         × (Triple 𝓤 (C next-level) (Changed.Whole E [] Y (λ x ks. NextLevel x) 𝓤 H A) × (Triple 𝓤 (C release) (Changed.Whole E [] (itself E) (λ x ks. Release x) 𝓤 H A)))))))
 
-    module _ (W : Given 𝓤 H A) (κ : Lft) (q : Share) (e : E .D) (k : K .D) (b o : ℕ) (γ : GName) (ys : List (L .D)) (p : P .D) (t : T .D)
-        (is : Is (row E) e (E .val e ∷ [])) (k-is : Is (row K) k (K .val k ∷ [])) (room : Room (row L) (length ys)) (p-is : Is (row P) p (P .val p ∷ [])) (t-is : Is (row T) t (T .val t ∷ [])) where
+    module _ (c : Clauses 𝓤 played-end) (holds : Holds c) (W : Given 𝓤 H A) (κ : Lft) (q : Share) (e : E .D) (k : K .D) (b o : ℕ) (γ : GName) (ys : List (L .D)) (p : P .D) (t : T .D)
+        (is : Is (row E) e (E .val e ∷ [])) (k-is : Is (row K) k (K .val k ∷ [])) (room : Room (row L) (length ys)) (p-is : Is (row P) p (P .val p ∷ [])) (t-is : Is (row T) t (T .val t ∷ []))
+        (g : c (κ, tt) (e, (k, (record { ptr = (b, o); name = γ; now = ys }, (p, (t, tt))))) .ghost) where
       abbrev held : List (L .D) → RefT (List (L .D))
       held zs = record { ptr = (b, o); name = γ; now = zs }
 
@@ -161,22 +158,22 @@ module _ (E K P T L R : Data) (Z Y : Answer E) (Trigger : E .D → K .D → E .D
       x = After (struck e k) ys
 
       abbrev Then : Val → SProp 𝓤
-      Then = walkOf 𝓤 H A played-end stayed played-clauses .post (((κ, tt), (q, tt), tt, a, vs), tt)
+      Then = walkOf 𝓤 H A played-end stayed c .post (((κ, tt), (q, tt), tt, a, vs), g)
 
       exits : length (Levels (struck e k) ys) ≡ length ys → Is (row R) (told x p t) (R .val (told x p t) ∷ [])
           → ent 𝓤 (⋆ 𝓤 H A (‵ (MutSlice (named 0) κ (row L) .own (held (Levels (struck e k) ys)) (slice-vals (held ys))) ∷ ‵ (flft κ q) ∷ [])) (Then (R .val (told x p t)))
       exits long r-is =
           qed W (‵ (MutSlice (named 0) κ (row L) .own (held (Levels (struck e k) ys)) (slice-vals (held ys))) ∷ ‵ (flft κ q) ∷ []) ∵
-          suffices ! _ (ends-at 𝓤 H A played-end stayed played-clauses W (((κ, tt), (q, tt), tt, a, vs), tt) (R .val (told x p t)) (told x p t) (tt, (tt, (Levels (struck e k) ys, (tt, (tt, tt))))) (tt, (tt, (long, (tt, (tt, tt)))))) $
+          suffices ! _ (ends-at 𝓤 H A played-end stayed c W (((κ, tt), (q, tt), tt, a, vs), g) (R .val (told x p t)) (told x p t) (tt, (tt, (Levels (struck e k) ys, (tt, (tt, tt))))) (tt, (tt, (long, (tt, (tt, tt)))))) $
           nothing ! $ nothing ! $ fjoin ! $ nothing ! $ fjoin ! $ move ! (1 ∷ 0 ∷ []) $ fjoin ! $ nothing ! $ fjoin ! $ nothing ! $ fjoin ! $
           -- [the parameters; the token]
           owned ! (row R) (Is (row R)) (makes R 𝓤 H A) (told x p t) _ r-is $ move ! (1 ∷ 0 ∷ []) $ join ! $ nothing ! $ move ! (2 ∷ 0 ∷ []) $ join ! $ join ! $
-          use0 W (raw (fact 𝓤 (Levels (struck e k) ys ≡ Levels (struck e k) ys)) ⊛ raw (fact 𝓤 (told x p t ≡ told x p t))) (both-said 𝓤 refl refl) $ move ! (1 ∷ 0 ∷ []) $ done !
+          use0 W (raw (c (κ, tt) a .ensures g (told x p t) (atExit played-end (κ, tt) a (tt, (tt, (Levels (struck e k) ys, (tt, (tt, tt)))))))) (holds (κ, tt) a g) $ move ! (1 ∷ 0 ∷ []) $ done !
 
       module _ (C : Calls 𝓤 H) (Λ : Loops 𝓤 H) (fm : FmC 𝓤 H (W .laws) C) (reset trigger process set-params set-timing next-level release : Name) (known : Known C reset trigger process set-params set-timing next-level release) where
-        walk : ent 𝓤 (sep 𝓤 (onEntry 𝓤 H A (played-end .signature) (κ, tt) (q, tt) a vs) (emp 𝓤)) (WpFn 𝓤 H C Λ (played-fn reset trigger process set-params set-timing next-level release) (E .val e ∷ K .val k ∷ sliceVal (b, o) (length ys) ∷ P .val p ∷ T .val t ∷ []) Then)
+        walk : ent 𝓤 (sep 𝓤 (onEntry 𝓤 H A (played-end .signature) (κ, tt) (q, tt) a vs) (c (κ, tt) a .requires g)) (WpFn 𝓤 H C Λ (played-fn reset trigger process set-params set-timing next-level release) (E .val e ∷ K .val k ∷ sliceVal (b, o) (length ys) ∷ P .val p ∷ T .val t ∷ []) Then)
         walk =
-            qed W (((‵ (flft κ q) ⊛ ‵ ftrue) ⊛ ‵ (owns (row E ∷ row K ∷ MutSlice (named 0) κ (row L) ∷ row P ∷ row T ∷ []) a vs)) ∷ raw (emp 𝓤) ∷ []) ∵ split ! $ split ! $ move ! (2 ∷ []) $ fsplit ! $ drop ! $ fsplit ! $ drop ! $ fsplit ! $ keep ! (0 ∷ 2 ∷ []) $
+            qed W (((‵ (flft κ q) ⊛ ‵ ftrue) ⊛ ‵ (owns (row E ∷ row K ∷ MutSlice (named 0) κ (row L) ∷ row P ∷ row T ∷ []) a vs)) ∷ raw (c (κ, tt) a .requires g) ∷ []) ∵ split ! $ split ! $ move ! (2 ∷ []) $ fsplit ! $ drop ! $ fsplit ! $ drop ! $ fsplit ! $ keep ! (0 ∷ 2 ∷ []) $
             -- [`held`; its token]
             enter ! C Λ (played-fn reset trigger process set-params set-timing next-level release) (E .val e ∷ K .val k ∷ sliceVal (b, o) (length ys) ∷ P .val p ∷ T .val t ∷ []) _ $
             alloc1 ! (λ l0. alloc1 ! (λ l1. alloc1 ! (λ l2. alloc1 ! (λ l3. alloc1 ! (λ l4. alloc1 ! (λ l5. alloc1 ! (λ l6. alloc1 ! (λ l7. alloc1 ! (λ l8. alloc1 ! (λ l9. alloc1 ! (λ l10. alloc1 ! (λ l11. alloc1 ! (λ l12. alloc1 ! (λ l13. alloc1 ! (λ l14. alloc1 ! (λ l15. alloc1 ! (λ l16. alloc1 ! (λ l17. alloc1 ! (λ l18. alloc1 ! (λ l19. alloc1 ! (λ l20. alloc0 ! $
@@ -214,9 +211,9 @@ module _ (E K P T L R : Data) (Z Y : Answer E) (Trigger : E .D → K .D → E .D
             move ! (42 ∷ 43 ∷ 40 ∷ 41 ∷ 38 ∷ 39 ∷ 36 ∷ 37 ∷ 34 ∷ 35 ∷ 32 ∷ 33 ∷ 0 ∷ 31 ∷ 29 ∷ 30 ∷ 27 ∷ 28 ∷ 25 ∷ 26 ∷ 23 ∷ 24 ∷ 21 ∷ 22 ∷ 19 ∷ 20 ∷ 17 ∷ 18 ∷ 15 ∷ 16 ∷ 13 ∷ 14 ∷ 11 ∷ 12 ∷ 9 ∷ 10 ∷ 7 ∷ 8 ∷ 5 ∷ 6 ∷ 3 ∷ 4 ∷ []) $ freed ! $ freed ! $ freed ! $ freed ! $ freed ! $ freed ! $ freed ! $ freed ! $
             freed ! $ freed ! $ freed ! $ freed ! $ freed ! $ freed ! $ freed ! $ freed ! $ freed ! $ freed ! $ freed ! $ freed ! $ freed ! $ free0 ! $ by ! (exits long r-is)))))))))))))))))))))))))))))
 
-    meets : (W : Given 𝓤 H A) (𝓣 : Tables 𝓤 H) (reset trigger process set-params set-timing next-level release : Name) → Known (𝓣 .C) reset trigger process set-params set-timing next-level release
-        → Triple 𝓤 (WpFn 𝓤 H (𝓣 .C) (𝓣 .Λ) (played-fn reset trigger process set-params set-timing next-level release)) Played
-    meets W 𝓣 reset trigger process set-params set-timing next-level release known =
+    meets : (c : Clauses 𝓤 played-end) → Holds c → (W : Given 𝓤 H A) (𝓣 : Tables 𝓤 H) (reset trigger process set-params set-timing next-level release : Name) → Known (𝓣 .C) reset trigger process set-params set-timing next-level release
+        → Triple 𝓤 (WpFn 𝓤 H (𝓣 .C) (𝓣 .Λ) (played-fn reset trigger process set-params set-timing next-level release)) (tripleOf 𝓤 H A (played-end .signature) (closing 𝓤 H A played-end c))
+    meets c holds W 𝓣 reset trigger process set-params set-timing next-level release known =
         walk-meets 𝓤 H A played-end stayed W (
           goes-dropped 𝓤 H A W 1 (plain (λ _. row E)) yes (λ κs u g. refl),
           (
@@ -230,17 +227,17 @@ module _ (E K P T L R : Data) (Z Y : Answer E) (Trigger : E .D → K .D → E .D
             ),
           ),
         )
-        played-clauses (WpFn 𝓤 H (𝓣 .C) (𝓣 .Λ) (played-fn reset trigger process set-params set-timing next-level release)) (WpFn-mono 𝓤 H (W .laws) 𝓣 (played-fn reset trigger process set-params set-timing next-level release))
-        (walked 𝓤 H A played-end stayed played-clauses (WpFn 𝓤 H (𝓣 .C) (𝓣 .Λ) (played-fn reset trigger process set-params set-timing next-level release)) (λ κs. ((λ u. E .val u ∷ []), ((λ u. K .val u ∷ []), (slice-vals, ((λ u. P .val u ∷ []), ((λ u. T .val u ∷ []), tt))))))
+        c (WpFn 𝓤 H (𝓣 .C) (𝓣 .Λ) (played-fn reset trigger process set-params set-timing next-level release)) (WpFn-mono 𝓤 H (W .laws) 𝓣 (played-fn reset trigger process set-params set-timing next-level release))
+        (walked 𝓤 H A played-end stayed c (WpFn 𝓤 H (𝓣 .C) (𝓣 .Λ) (played-fn reset trigger process set-params set-timing next-level release)) (λ κs. ((λ u. E .val u ∷ []), ((λ u. K .val u ∷ []), (slice-vals, ((λ u. P .val u ∷ []), ((λ u. T .val u ∷ []), tt))))))
         (λ κs. (E .tells, (K .tells, (mut-slice-tells (named 0) (κs .0) (row L), (P .tells, (T .tells, tt))))))
-        (λ κs qs bounds u g are. walk W (κs .0) (qs .0) (u .0) (u .1 .0) (u .1 .1 .0 .ptr .0) (u .1 .1 .0 .ptr .1) (u .1 .1 .0 .name) (u .1 .1 .0 .now) (u .1 .1 .1 .0) (u .1 .1 .1 .1 .0)
-        (are .0) (are .1 .0) (are .1 .1 .0 .0 .1) (are .1 .1 .1 .0) (are .1 .1 .1 .1 .0) (𝓣 .C) (𝓣 .Λ) (fmOf 𝓤 H (W .laws) 𝓣) reset trigger process set-params set-timing next-level release known))
+        (λ κs qs bounds u g are. walk c holds W (κs .0) (qs .0) (u .0) (u .1 .0) (u .1 .1 .0 .ptr .0) (u .1 .1 .0 .ptr .1) (u .1 .1 .0 .name) (u .1 .1 .0 .now) (u .1 .1 .1 .0) (u .1 .1 .1 .1 .0)
+        (are .0) (are .1 .0) (are .1 .1 .0 .0 .1) (are .1 .1 .1 .0) (are .1 .1 .1 .1 .0) g (𝓣 .C) (𝓣 .Λ) (fmOf 𝓤 H (W .laws) 𝓣) reset trigger process set-params set-timing next-level release known))
 
   module _ {M : Type 1} (𝓤 : URA M) (H : Heap 𝓤) (𝓜 : Model 𝓤 H) (𝓖 : GhostRules 𝓤 H) (𝓡 : Running 𝓤 H 𝓜) (env : Env) (g reset trigger process set-params set-timing next-level release : Name) (unfolded : Closed 𝓤 H (tables 𝓤 H 𝓜 𝓡 env .C) (tables 𝓤 H 𝓜 𝓡 env .Λ) g (played-fn reset trigger process set-params set-timing next-level release)) where
-    spec : Known 𝓤 H (𝓖 .A) (tables 𝓤 H 𝓜 𝓡 env .C) reset trigger process set-params set-timing next-level release → Triple 𝓤 (tables 𝓤 H 𝓜 𝓡 env .C g) (Played 𝓤 H (𝓖 .A))
+    spec : Known 𝓤 H (𝓖 .A) (tables 𝓤 H 𝓜 𝓡 env .C) reset trigger process set-params set-timing next-level release → (c : Clauses 𝓤 played-end) → Holds 𝓤 H (𝓖 .A) c → Triple 𝓤 (tables 𝓤 H 𝓜 𝓡 env .C g) (tripleOf 𝓤 H (𝓖 .A) (played-end .signature) (closing 𝓤 H (𝓖 .A) played-end c))
     unfolding tablesOf
-    spec known =
-        entered 𝓤 H (Played 𝓤 H (𝓖 .A)) (tables 𝓤 H 𝓜 𝓡 env .C) (tables 𝓤 H 𝓜 𝓡 env .Λ) g (played-fn reset trigger process set-params set-timing next-level release) unfolded (meets 𝓤 H (𝓖 .A) (givenOf 𝓤 H 𝓜 𝓖) (tablesOf 𝓤 H 𝓜 (tables 𝓤 H 𝓜 𝓡 env)) reset trigger process set-params set-timing next-level release known)
+    spec known c holds =
+        entered 𝓤 H (tripleOf 𝓤 H (𝓖 .A) (played-end .signature) (closing 𝓤 H (𝓖 .A) played-end c)) (tables 𝓤 H 𝓜 𝓡 env .C) (tables 𝓤 H 𝓜 𝓡 env .Λ) g (played-fn reset trigger process set-params set-timing next-level release) unfolded (meets 𝓤 H (𝓖 .A) c holds (givenOf 𝓤 H 𝓜 𝓖) (tablesOf 𝓤 H 𝓜 (tables 𝓤 H 𝓜 𝓡 env)) reset trigger process set-params set-timing next-level release known)
 
 abbrev noted : ℕ → ℕ → Float → Envelope → Note
 noted n m l e = record { «params_refused» = n; «timing_refused» = m; level = l; envelope = e }
@@ -269,3 +266,4 @@ played-spec 𝓤 H 𝓜 𝓖 𝓡 =
         ),
       ),
     )
+    (f.clauses 𝓤 H (𝓖 .A) (𝓜 .mem) (𝓡 .run)) (λ κs a g. both-said 𝓤 refl refl)
