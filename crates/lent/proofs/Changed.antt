@@ -1,4 +1,6 @@
--- A function over a `&mut` to a struct: it copies the struct out, makes one call by value, and puts a part of the answer back.
+-- A function over a `&mut` to a struct that copies it out, makes one call by value with the copy and its other parameters, and puts the answer back, or a part of it:
+--     *self = self.callee(..);                     let answer = self.callee(..); *self = answer.1; answer.0
+-- `spec` is its theorem, from the callee's and from the facts that its own statement says of the callee's answer. `changes` is the rule for a function that lends it a local.
 use mathlib.Core.Path.{_≡_, refl, sym, ap}
 use Prim.Native.Nat.{ℕ, suc}
 use mathlib.Core.List.{List, [], _∷_, _++_}
@@ -16,7 +18,7 @@ use contract.Monad.{fact}
 use contract.Lifetimes.{Lfts}
 use contract.Running.{GhostRules, Running, tables}
 use types.Kit.{Given, Item, some, later, pick, rewrite, await, Seq, Post as Ends, runs, lands, ‵, raw, _⊛_, ⋆, _$_, _∵_, !, qed, by, move, keep, drop, use0, use1, split, join, fsplit, fsplit3, fjoin, fjoin3, feqI, suffices, done}
-use types.Run.{Opds, look, look-raw, init, store-raw, forget, stop, hop, from, load, and-then, of-opd, land, assigns, returns, enter, alloc1, alloc0, params1, pass1, free1, free0}
+use types.Run.{Opds, look, look-raw, init, store-raw, stop, hop, from, load, and-then, of-opd, land, assigns, returns, enter, alloc1, alloc0, params1, pass1, free0}
 use types.SemTy.{Body}
 use sound.WpLaws.{FmC, fmOf, WpFn-mono}
 use denote.RattleType.{Denots, Valss, owns}
@@ -38,7 +40,7 @@ use Rattle.lent.proofs.Params.{slots, dropped, rows-at, spells, tell, v
 use Rattle.lent.proofs.ByValue.{ByValue, value, returned}
 use Rattle.lent.proofs.Answers.{Answer}
 use Rattle.lent.proofs.Thin.{stands}
-use Rattle.lent.proofs.Lending.{to-local, taken-out, put-back, lends, comes-home}
+use Rattle.lent.proofs.Lending.{to-local, taken-out, put-back, lends, comes-home, freed}
 
 module _ (E : Data) (Ks : List Data) (Z : Answer E) (F : E .D → Args Ks → Z .B .D) where
   abbrev pub lent-end : Ended
@@ -119,17 +121,19 @@ module _ (E : Data) (Ks : List Data) (Z : Answer E) (F : E .D → Args Ks → Z 
             alloc1 ! (λ l0. alloc1 ! (λ l1. alloc-all ! Ks _ (λ bs. alloc1 ! (λ ld. alloc1 ! (λ lc. alloc0 ! $ params1 ! $ pass1 ! (init ! 5 refl (tt, tt)) $ move ! (4 ∷ []) $ pass-all ! 1 (κ, tt) Ks a are bs _ (
             -- [the parameters; the copy; the answer; the reference; the result; what is behind; the borrow; its token], two entries for a local
             move ! (9 ∷ 10 ∷ 11 ∷ []) $ taken-out E ! tt h b o (λ was. move ! (4 ∷ []) $
-            -- [the parameters; the cell behind; the open borrow, three entries; the locals]
+            -- copy = *self;        [the parameters; the cell behind; the open borrow, three entries; the locals]
             assigns ! (of-opd ! (load ! (from ! (hop ! (look ! 9 refl) (stop !))) (look-raw ! 1 refl))) (from-spot ! (spot-after 𝓤 H Ks bs _ 1) (stop !)) (init ! 5 refl (E .typed 𝓤 H A W h _ was .0)) $
+            -- answer = callee(copy, ..);
             value (E ∷ Ks) (Z .B) (λ y. F (y .0) (y .1)) ! fm known (h, given 1 (κ, tt) Ks a) (was, good 1 (κ, tt) Ks a are)
             (λ i. and-then ! (load ! (from-spot ! (spot-after 𝓤 H Ks bs _ 1) (stop !)) (look ! 6 refl)) (copy-all ! Ks bs (given 1 (κ, tt) Ks a) (λ j. suc (suc j)) _ _ (λ j. refl))) (λ is.
             land ! (from-spot ! (spot-after 𝓤 H Ks bs _ 0) (stop !)) (init ! 7 refl (Z .B .typed 𝓤 H A W z _ is .0)) $
+            -- *self = what is kept; the result = what is handed on;
             assigns ! (of-opd ! (Z .keeps-it ! answer 7 ld z (spot-after 𝓤 H Ks bs _ 0) refl)) (from ! (hop ! (look ! 9 refl) (stop !))) (store-raw ! 1 refl (E .typed 𝓤 H A W (Z .kept z) _ (Z .kept-is z is) .0)) $
             assigns ! (of-opd ! (Z .hands-it ! answer 7 ld z (spot-after 𝓤 H Ks bs _ 0) refl)) (from ! (stop !)) (init ! 11 refl (Z .R .typed 𝓤 H A W (Z .handed z) _ (Z .handed-is z is) .0)) $
             move ! (1 ∷ 2 ∷ 3 ∷ 4 ∷ []) $ put-back E ! tt (Z .kept z) (Z .kept-is z is) b o $
             -- [what is behind; the borrow; its token; the parameters; the locals]
-            returns ! (look ! 10 refl) $ forget ! 4 refl $ forget ! 6 refl $ forget ! 8 refl $ forget ! 10 refl $ move ! (10 ∷ 11 ∷ []) $ free1 ! $ move ! (8 ∷ 9 ∷ []) $ free1 ! $
-            move ! (3 ∷ []) $ forget-all ! Ks bs _ $ free-all ! Ks bs _ (move ! (5 ∷ 6 ∷ []) $ free1 ! $ move ! (3 ∷ 4 ∷ []) $ free1 ! $ free0 ! $ by ! (exits is))))))))))
+            returns ! (look ! 10 refl) $ move ! (10 ∷ 11 ∷ []) $ freed ! $ move ! (8 ∷ 9 ∷ []) $ freed ! $
+            move ! (3 ∷ []) $ forget-all ! Ks bs _ $ free-all ! Ks bs _ (move ! (5 ∷ 6 ∷ []) $ freed ! $ move ! (3 ∷ 4 ∷ []) $ freed ! $ free0 ! $ by ! (exits is))))))))))
 
     meets : (c : Clauses 𝓤 lent-end) → Holds c → (W : Given 𝓤 H A) (𝓣 : Tables 𝓤 H) (f : Name) → Triple 𝓤 (𝓣 .C f) Core → Triple 𝓤 (WpFn 𝓤 H (𝓣 .C) (𝓣 .Λ) (lent-fn f)) (tripleOf 𝓤 H A (lent-end .signature) (closing 𝓤 H A lent-end c))
     meets c holds W 𝓣 f known =

@@ -1,4 +1,6 @@
--- A function over a `&mut` to a struct and a `&mut` slice: it copies the struct out, passes the copy and the slice on, and puts the answer back.
+-- A function over a `&mut` to a struct and a `&mut` slice that copies the struct out, passes the copy and the slice on to one by value, and puts the answer back:
+--     *self = self.callee(out);
+-- `spec` is its theorem, from the callee's and from the facts that its own statement says of the struct and the slice afterwards. `fills` is the rule for a function that lends it a local and a slice of its own.
 use mathlib.Core.Path.{_≡_, refl, subst}
 use Prim.Native.Nat.{ℕ}
 use mathlib.Core.List.{List, [], _∷_}
@@ -17,7 +19,7 @@ use contract.Lifetimes.{Lfts}
 use contract.Monad.{fact}
 use contract.Running.{GhostRules, Running, tables}
 use types.Kit.{Given, Item, group, Seq, Post as Ends, runs, lands, ‵, raw, _⊛_, ⋆, some, later, _$_, _∵_, !, qed, by, move, keep, drop, use0, use1, split, join, pick, fsplit, fsplit3, fjoin, fjoin3, feqI, feqL, suffices, rewrite, await, done}
-use types.Run.{Opds, look, look-raw, init, store-raw, forget, stop, hop, fld, from, load, addr, unit-lit, and-then, no-more, of-opd, land, assigns, returns, enter, alloc1, alloc0, params1, pass1, pass0, free1, free0}
+use types.Run.{Opds, look, look-raw, init, store-raw, stop, hop, fld, from, load, addr, unit-lit, and-then, no-more, of-opd, land, assigns, returns, enter, alloc1, alloc0, params1, pass1, pass0, free0}
 use types.Part.{agg, whole, sub, look-in}
 use types.SemTy.{Body}
 use sound.WpLaws.{FmC, fmOf, WpFn-mono}
@@ -40,7 +42,7 @@ use Rattle.lent.proofs.Data.{Data, row, makes, of-unit}
 use Rattle.lent.proofs.Answers.{both-heard}
 use Rattle.lent.proofs.ByValue.{returned}
 use Rattle.lent.proofs.Thin.{stands}
-use Rattle.lent.proofs.Lending.{to-local, taken-out, put-back, lends, comes-home}
+use Rattle.lent.proofs.Lending.{to-local, taken-out, put-back, lends, comes-home, freed}
 use Rattle.lent.proofs.Slices.{sliced, lends-again, came-back}
 
 -- The struct and the slice afterwards, of the struct and the slice before.
@@ -156,18 +158,19 @@ module _ (E F : Data) (G : E .D → List (F .D) → E .D) (S : E .D → List (F 
             enter ! C Λ (lent-fn f) (vptr b o ∷ s ∷ []) _ $
             alloc1 ! (λ l0. alloc1 ! (λ l1. alloc1 ! (λ l2. alloc1 ! (λ l3. alloc1 ! (λ l4. alloc1 ! (λ l5. alloc1 ! (λ l6. alloc0 ! $ params1 ! $ pass1 ! (init ! 10 refl (tt, tt)) $ pass1 ! (init ! 8 refl (tt, (tt, (record { fits = room .0 }, tt)))) $ pass0 ! $
             move ! (14 ∷ 15 ∷ 16 ∷ []) $ taken-out E ! tt h b o (λ was.
-            -- [the cell behind; the open borrow, three entries; the locals, the last first, two entries for one; the slice; its token]
+            -- copy = *self;        [the cell behind; the open borrow, three entries; the locals, the last first, two entries for one; the slice; its token]
             assigns ! (of-opd ! (load ! (from ! (hop ! (look ! 14 refl) (stop !))) (look-raw ! 0 refl))) (from ! (stop !)) (init ! 8 refl (E .typed 𝓤 H A W h _ was .0)) $
+            -- answer = callee(copy, out);
             assigns ! (addr ! (from ! (fld ! refl (hop ! (look-in ! 12 (sub ! 0 refl (whole !))) (stop !))))) (from ! (stop !)) (init ! 6 refl (tt, tt)) $
             assigns ! (agg ! (and-then ! (load ! (from ! (stop !)) (look ! 6 refl)) (and-then ! (load ! (from ! (fld ! refl (stop !))) (look-in ! 12 (sub ! 1 refl (whole !)))) (no-more !)))) (from ! (stop !)) (init ! 4 refl (tt, (tt, (record { fits = room .0 }, tt)))) $
             move ! (18 ∷ 19 ∷ []) $ passes-on ! fm known h was out (λ i. and-then ! (load ! (from ! (stop !)) (look ! 9 refl)) (and-then ! (load ! (from ! (stop !)) (look ! 5 refl)) (no-more !))) (λ long is.
-            -- [the slice's token; its last list; the cell behind; the open borrow, three entries; the locals]
+            -- *self = answer;        [the slice's token; its last list; the cell behind; the open borrow, three entries; the locals]
             land ! (from ! (stop !)) (init ! 12 refl (E .typed 𝓤 H A W (G h ys) _ is .0)) $
             assigns ! (of-opd ! (load ! (from ! (stop !)) (look ! 12 refl))) (from ! (hop ! (look ! 16 refl) (stop !))) (store-raw ! 2 refl (E .typed 𝓤 H A W (G h ys) _ is .0)) $
             assigns ! (of-opd ! (unit-lit !)) (from ! (stop !)) (init ! 18 refl (tt, tt)) $ move ! (2 ∷ 3 ∷ 4 ∷ 5 ∷ []) $ put-back E ! tt (G h ys) is b o $
             -- [what is behind; the borrow; its token; the slice's token; its last list; the locals]
-            returns ! (look ! 17 refl) $ forget ! 5 refl $ forget ! 7 refl $ forget ! 9 refl $ forget ! 11 refl $ forget ! 13 refl $ forget ! 15 refl $ forget ! 17 refl $
-            move ! (17 ∷ 18 ∷ []) $ free1 ! $ move ! (15 ∷ 16 ∷ []) $ free1 ! $ move ! (13 ∷ 14 ∷ []) $ free1 ! $ move ! (11 ∷ 12 ∷ []) $ free1 ! $ move ! (9 ∷ 10 ∷ []) $ free1 ! $ move ! (7 ∷ 8 ∷ []) $ free1 ! $ move ! (5 ∷ 6 ∷ []) $ free1 ! $ free0 ! $ by ! (exits long))))))))))
+            returns ! (look ! 17 refl) $
+            move ! (17 ∷ 18 ∷ []) $ freed ! $ move ! (15 ∷ 16 ∷ []) $ freed ! $ move ! (13 ∷ 14 ∷ []) $ freed ! $ move ! (11 ∷ 12 ∷ []) $ freed ! $ move ! (9 ∷ 10 ∷ []) $ freed ! $ move ! (7 ∷ 8 ∷ []) $ freed ! $ move ! (5 ∷ 6 ∷ []) $ freed ! $ free0 ! $ by ! (exits long))))))))))
 
     meets : (c : Clauses 𝓤 lent-end) → Holds c → (W : Given 𝓤 H A) (𝓣 : Tables 𝓤 H) (f : Name) → Triple 𝓤 (𝓣 .C f) (Core 𝓤 H A) → Triple 𝓤 (WpFn 𝓤 H (𝓣 .C) (𝓣 .Λ) (lent-fn f)) (tripleOf 𝓤 H A (lent-end .signature) (closing 𝓤 H A lent-end c))
     meets c holds W 𝓣 f known =

@@ -1,4 +1,6 @@
--- A function over a `&` to a struct: it copies the struct out, makes one call by value, and hands the answer on.
+-- A function over a `&` to a struct that copies it out, makes one call by value, and hands the answer on:
+--     self.callee()
+-- `spec` is its theorem, from the callee's and from the facts that its own statement says of the callee's answer. `reads` is the rule for a function that lends it a local.
 use mathlib.Core.Path.{_≡_, refl}
 use Prim.Native.Nat.{ℕ}
 use mathlib.Core.List.{List, [], _∷_}
@@ -16,7 +18,7 @@ use contract.Lifetimes.{Lfts}
 use contract.Monad.{fact}
 use contract.Running.{GhostRules, Running, tables}
 use types.Kit.{Given, Item, Seq, Post as Ends, runs, lands, some, later, pick, await, use0, use1, ‵, raw, _⊛_, ⋆, _$_, _∵_, !, qed, by, move, keep, drop, split, join, fsplit, fsplit3, fjoin, suffices, done}
-use types.Run.{Opds, look, look-raw, init, forget, stop, hop, from, load, and-then, no-more, of-opd, land, assigns, returns, enter, alloc1, alloc0, params1, pass1, pass0, free1, free0}
+use types.Run.{Opds, look, look-raw, init, stop, hop, from, load, and-then, no-more, of-opd, land, assigns, returns, enter, alloc1, alloc0, params1, pass1, pass0, free0}
 use sound.WpLaws.{FmC, fmOf, WpFn-mono}
 use denote.RattleType.{owns}
 use denote.Laws.{Is, shows}
@@ -35,7 +37,7 @@ use denote.Triple.Clauses.{Ended, Clauses, atExit, ensured, closing, lasts}
 use Rattle.lent.proofs.Data.{Data, row, makes, copies}
 use Rattle.lent.proofs.ByValue.{ByValue, value, returned}
 use Rattle.lent.proofs.Thin.{stands}
-use Rattle.lent.proofs.Lending.{to-local, shows-it, was-shown}
+use Rattle.lent.proofs.Lending.{to-local, shows-it, was-shown, freed}
 
 module _ (E R : Data) (F : E .D → R .D) where
   abbrev pub lent-end : Ended
@@ -97,13 +99,13 @@ module _ (E R : Data) (F : E .D → R .D) where
             enter ! C Λ (lent-fn f) (vptr b o ∷ []) _ $ alloc1 ! (λ l0. alloc1 ! (λ l1. alloc1 ! (λ l2. alloc0 ! $ params1 ! $ pass1 ! (init ! 2 refl (tt, tt)) $ pass0 ! $
             move ! (6 ∷ 7 ∷ []) $ looks ! tt (row E) (Is (row E)) (shows 𝓤 H A (row E)) (λ d. E .val d ∷ []) (E .tells) (copies E 𝓤 H A W) h b o (λ q′ us.
             spelt ! (row E) (Is (row E)) (shows 𝓤 H A (row E)) (λ d. E .val d ∷ []) (E .tells) q′ h us b o $ move ! (1 ∷ []) $ facts ! (row E) (Is (row E)) (shows 𝓤 H A (row E)) h (E .val h ∷ []) (λ was.
-            -- [a share of the cell behind; what shuts it; the shared borrow; the copy; the reference; the result], two entries for a local
+            -- copy = *self;        [a share of the cell behind; what shuts it; the shared borrow; the copy; the reference; the result], two entries for a local
             assigns ! (of-opd ! (load ! (from ! (hop ! (look ! 5 refl) (stop !))) (look-raw ! 0 refl))) (from ! (stop !)) (init ! 3 refl (E .typed 𝓤 H A W h _ was .0)) $
             owned ! (row E) (Is (row E)) (makes E 𝓤 H A) h _ was $ move ! (1 ∷ 0 ∷ 2 ∷ []) $ shuts ! tt (row E) q′ h (E .val h ∷ []) b o $
-            -- [the token; the shared borrow; the locals]
+            -- the result = callee(copy);        [the token; the shared borrow; the locals]
             value (E ∷ []) R (λ y. F (y .0)) ! fm known (h, tt) (was, tt) (λ i. and-then ! (load ! (from ! (stop !)) (look ! 3 refl)) (no-more !)) (λ is.
-            land ! (from ! (stop !)) (init ! 6 refl (R .typed 𝓤 H A W (F h) _ is .0)) $ returns ! (look ! 6 refl) $ forget ! 2 refl $ forget ! 4 refl $ forget ! 6 refl $
-            move ! (6 ∷ 7 ∷ []) $ free1 ! $ move ! (4 ∷ 5 ∷ []) $ free1 ! $ move ! (2 ∷ 3 ∷ []) $ free1 ! $ free0 ! $ keep ! (0 ∷ []) $ by ! (exits is)))))))
+            land ! (from ! (stop !)) (init ! 6 refl (R .typed 𝓤 H A W (F h) _ is .0)) $ returns ! (look ! 6 refl) $
+            move ! (6 ∷ 7 ∷ []) $ freed ! $ move ! (4 ∷ 5 ∷ []) $ freed ! $ move ! (2 ∷ 3 ∷ []) $ freed ! $ free0 ! $ keep ! (0 ∷ []) $ by ! (exits is)))))))
 
     meets : (c : Clauses 𝓤 lent-end) → Holds c → (W : Given 𝓤 H A) (𝓣 : Tables 𝓤 H) (f : Name) → Triple 𝓤 (𝓣 .C f) Core → Triple 𝓤 (WpFn 𝓤 H (𝓣 .C) (𝓣 .Λ) (lent-fn f)) (tripleOf 𝓤 H A (lent-end .signature) (closing 𝓤 H A lent-end c))
     meets c holds W 𝓣 f known =
