@@ -18,7 +18,8 @@ impl Envelope {
         self.params_now()
     }
 
-    // Changes its settings from the next sample. Answers the refusal's number: 3 a time over its limit.
+    // Changes its settings from the next sample. Answers 0, or the number that refuses them: 3 a time
+    // over its limit.
     pub fn set_params(&mut self, params: EnvelopeParams) -> u32
         ensures answer { λ r. ⌜ r ≡ Envelopes.setParams params (now (self .entry)) .refusal ⌝ }
         ensures after { λ r. ⌜ now (self .exit) ≡ Envelopes.setParams params (now (self .entry)) .envelope ⌝ }
@@ -28,8 +29,8 @@ impl Envelope {
         answer.refusal
     }
 
-    // Changes the sample rate, tempo or global scale from the next sample. Answers the refusal's
-    // number: 4 a sample rate over its limit.
+    // Changes the sample rate, tempo or global scale from the next sample. Answers 0, or the number
+    // that refuses it: 4 a sample rate over its limit.
     pub fn set_timing(&mut self, timing: Timing) -> u32
         ensures answer { λ r. ⌜ r ≡ Envelopes.setTiming timing (now (self .entry)) .refusal ⌝ }
         ensures after { λ r. ⌜ now (self .exit) ≡ Envelopes.setTiming timing (now (self .entry)) .envelope ⌝ }

@@ -1,5 +1,6 @@
-// One voice's envelope by value: mod.rs's `Envelope`, with the refusals, tail and lead that document
-// 01 adds. Calls take the envelope and answer the one after; readings take it and change nothing.
+// One voice's envelope: mod.rs's `Envelope`, with the refusals, tail and lead that document 01 adds. By
+// value, calls take the envelope and answer the one after, and readings take it and change nothing;
+// in place, the Rust's own methods are lent it.
 mod drawing;
 mod envelopes;
 mod in_place;

@@ -42,7 +42,7 @@ use Rattle.lent.proofs.Data.{Data, row, makes, of-unit}
 use Rattle.lent.proofs.Answers.{both-heard}
 use Rattle.lent.proofs.ByValue.{returned}
 use Rattle.lent.proofs.Thin.{stands}
-use Rattle.lent.proofs.Lending.{to-local, taken-out, put-back, lends, comes-home, freed}
+use Rattle.lent.proofs.Lending.{to-local, taken-out, put-back, lends, comes-home, freed, copied}
 use Rattle.lent.proofs.Slices.{sliced, lends-again, came-back}
 
 -- The struct and the slice afterwards, of the struct and the slice before.
@@ -162,11 +162,11 @@ module _ (E F : Data) (G : E .D → List (F .D) → E .D) (S : E .D → List (F 
             assigns ! (of-opd ! (load ! (from ! (hop ! (look ! 14 refl) (stop !))) (look-raw ! 0 refl))) (from ! (stop !)) (init ! 8 refl (E .typed 𝓤 H A W h _ was .0)) $
             -- answer = callee(copy, out);
             assigns ! (addr ! (from ! (fld ! refl (hop ! (look-in ! 12 (sub ! 0 refl (whole !))) (stop !))))) (from ! (stop !)) (init ! 6 refl (tt, tt)) $
-            assigns ! (agg ! (and-then ! (load ! (from ! (stop !)) (look ! 6 refl)) (and-then ! (load ! (from ! (fld ! refl (stop !))) (look-in ! 12 (sub ! 1 refl (whole !)))) (no-more !)))) (from ! (stop !)) (init ! 4 refl (tt, (tt, (record { fits = room .0 }, tt)))) $
-            move ! (18 ∷ 19 ∷ []) $ passes-on ! fm known h was out (λ i. and-then ! (load ! (from ! (stop !)) (look ! 9 refl)) (and-then ! (load ! (from ! (stop !)) (look ! 5 refl)) (no-more !))) (λ long is.
+            assigns ! (agg ! (and-then ! (copied ! 6 refl) (and-then ! (load ! (from ! (fld ! refl (stop !))) (look-in ! 12 (sub ! 1 refl (whole !)))) (no-more !)))) (from ! (stop !)) (init ! 4 refl (tt, (tt, (record { fits = room .0 }, tt)))) $
+            move ! (18 ∷ 19 ∷ []) $ passes-on ! fm known h was out (λ i. and-then ! (copied ! 9 refl) (and-then ! (copied ! 5 refl) (no-more !))) (λ long is.
             -- *self = answer;        [the slice's token; its last list; the cell behind; the open borrow, three entries; the locals]
             land ! (from ! (stop !)) (init ! 12 refl (E .typed 𝓤 H A W (G h ys) _ is .0)) $
-            assigns ! (of-opd ! (load ! (from ! (stop !)) (look ! 12 refl))) (from ! (hop ! (look ! 16 refl) (stop !))) (store-raw ! 2 refl (E .typed 𝓤 H A W (G h ys) _ is .0)) $
+            assigns ! (of-opd ! (copied ! 12 refl)) (from ! (hop ! (look ! 16 refl) (stop !))) (store-raw ! 2 refl (E .typed 𝓤 H A W (G h ys) _ is .0)) $
             assigns ! (of-opd ! (unit-lit !)) (from ! (stop !)) (init ! 18 refl (tt, tt)) $ move ! (2 ∷ 3 ∷ 4 ∷ 5 ∷ []) $ put-back E ! tt (G h ys) is b o $
             -- [what is behind; the borrow; its token; the slice's token; its last list; the locals]
             returns ! (look ! 17 refl) $

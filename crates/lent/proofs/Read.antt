@@ -37,7 +37,7 @@ use denote.Triple.Clauses.{Ended, Clauses, atExit, ensured, closing, lasts}
 use Rattle.lent.proofs.Data.{Data, row, makes, copies}
 use Rattle.lent.proofs.ByValue.{ByValue, value, returned}
 use Rattle.lent.proofs.Thin.{stands}
-use Rattle.lent.proofs.Lending.{to-local, shows-it, was-shown, freed}
+use Rattle.lent.proofs.Lending.{to-local, shows-it, was-shown, freed, copied}
 
 module _ (E R : Data) (F : E .D → R .D) where
   abbrev pub lent-end : Ended
@@ -103,7 +103,7 @@ module _ (E R : Data) (F : E .D → R .D) where
             assigns ! (of-opd ! (load ! (from ! (hop ! (look ! 5 refl) (stop !))) (look-raw ! 0 refl))) (from ! (stop !)) (init ! 3 refl (E .typed 𝓤 H A W h _ was .0)) $
             owned ! (row E) (Is (row E)) (makes E 𝓤 H A) h _ was $ move ! (1 ∷ 0 ∷ 2 ∷ []) $ shuts ! tt (row E) q′ h (E .val h ∷ []) b o $
             -- the result = callee(copy);        [the token; the shared borrow; the locals]
-            value (E ∷ []) R (λ y. F (y .0)) ! fm known (h, tt) (was, tt) (λ i. and-then ! (load ! (from ! (stop !)) (look ! 3 refl)) (no-more !)) (λ is.
+            value (E ∷ []) R (λ y. F (y .0)) ! fm known (h, tt) (was, tt) (λ i. and-then ! (copied ! 3 refl) (no-more !)) (λ is.
             land ! (from ! (stop !)) (init ! 6 refl (R .typed 𝓤 H A W (F h) _ is .0)) $ returns ! (look ! 6 refl) $
             move ! (6 ∷ 7 ∷ []) $ freed ! $ move ! (4 ∷ 5 ∷ []) $ freed ! $ move ! (2 ∷ 3 ∷ []) $ freed ! $ free0 ! $ keep ! (0 ∷ []) $ by ! (exits is)))))))
 
