@@ -17,7 +17,7 @@ use Rattle.lane.specs.declared.lanes.Voice.{Voice}
 use Rattle.lane.specs.Voices as Voices
 use Rattle.envelope.proofs.Fill.{split}
 use Rattle.bank.specs.declared.banks.EnvelopeBank.{EnvelopeBank}
-use Rattle.bank.specs.Calls.{strideOf}
+use Rattle.rows.specs.Strides.{strideOf}
 use Rattle.bank.specs.Banks.{voice, size, arrange, onAll, frame, frames, row, rows}
 use Rattle.bank.proofs.Lanes.{Sized, Lanes, arrange-sized, voice-arrange, length-tabulate, getD-tabulate}
 

@@ -133,7 +133,7 @@ putLane b n c =
     (set (b .scale) n (c .seg .scale)) (set (b .base) n (c .seg .base)) (set (b .left) n (c .seg .left))
 
 module _ (b : EnvelopeBank) (n : ℕ) (c : Voice) (S : Sized b) where
-  put-sized : Sized (putLane b n c)
+  pub put-sized : Sized (putLane b n c)
   put-sized =
       record {
         lanes = length-set (b .lanes) n (c .lane) ∙ S .lanes;
@@ -145,7 +145,7 @@ module _ (b : EnvelopeBank) (n : ℕ) (c : Voice) (S : Sized b) where
         left = length-set (b .left) n (c .seg .left) ∙ S .left;
       }
 
-  put-here : n < 64 → voice (putLane b n c) n ≡ c
+  pub put-here : n < 64 → voice (putLane b n c) n ≡ c
   put-here h =
       voice-is c _ _ _ _ _ _ _
       (getD-set-same (b .lanes) n (c .lane) blank (rw (S .lanes) h))
@@ -156,7 +156,7 @@ module _ (b : EnvelopeBank) (n : ℕ) (c : Voice) (S : Sized b) where
       (getD-set-same (b .base) n (c .seg .base) nan (rw (S .base) h))
       (getD-set-same (b .left) n (c .seg .left) 0 (rw (S .left) h))
 
-  put-there : (v : ℕ) → (v ≡ n → ⊥) → voice (putLane b n c) v ≡ voice b v
+  pub put-there : (v : ℕ) → (v ≡ n → ⊥) → voice (putLane b n c) v ≡ voice b v
   put-there v h =
       voice-is (voice b v) _ _ _ _ _ _ _
       (getD-set-other (b .lanes) n v (c .lane) blank h)

@@ -4,8 +4,5 @@ pub mod Frames
 mod Owned
 mod Spread
 mod Readings
-mod Lent
-mod Rows
-mod Groups
-mod Runs
-mod Whole
+pub mod Runs
+pub mod Whole

@@ -20,7 +20,9 @@ use Rattle.envelope.proofs.Fill.{split}
 use Rattle.envelope.proofs.Runs.{run-ends}
 use Rattle.bank.specs.declared.banks.EnvelopeBank.{EnvelopeBank}
 use Rattle.bank.specs.Banks.{blank, voice}
-use Rattle.bank.specs.Parts.{movedAt, leftAfter, followed}
+use Rattle.rows.specs.Rows.{movedAt}
+use Rattle.rows.specs.Runs.{leftAfter}
+use Rattle.bank.specs.Parts.{followed}
 use Rattle.bank.proofs.Lanes.{Sized, Lanes, bankOf, putLane, voice-is, lanes-put, lanes-same}
 
 -- A voice after m frames in its segment, before anything follows it.
@@ -31,7 +33,7 @@ followed-ended : (t : Timing) (v : Voice) → v .seg .left ≡ 0 → followed t 
 unfolding followed
 followed-ended t v e = rw (eq-eqb (v .seg .left) 0 e)
 
-followed-not : (t : Timing) (v : Voice) → (v .seg .left ≡ 0 → ⊥) → followed t v ≡ v
+pub followed-not : (t : Timing) (v : Voice) → (v .seg .left ≡ 0 → ⊥) → followed t v ≡ v
 unfolding followed
 followed-not t v e = rw (ne-eqb (v .seg .left) 0 e)
 

@@ -22,13 +22,15 @@ use Rattle.envelope.proofs.Fill.{split}
 use Rattle.envelope.proofs.Runs.{levelAt, level-within}
 use Rattle.bank.specs.declared.banks.EnvelopeBank.{EnvelopeBank}
 use Rattle.bank.specs.declared.banks.Answer.{Answer}
-use Rattle.bank.specs.Calls.{Call, strideOf, refusal}
+use Rattle.bank.specs.Calls.{Call, refusal}
+use Rattle.rows.specs.Strides.{strideOf}
 use Rattle.bank.specs.Banks.{voice, size, frames, rows, moved, answer, written}
-use Rattle.bank.specs.Parts.{drawnAt, RowsDrawn, Shortest, followed}
+use Rattle.rows.specs.Rows.{drawnAt, laneAt}
+use Rattle.bank.specs.Parts.{followed}
 use Rattle.bank.proofs.Lanes.{Sized, Lanes, bank-ext}
 use Rattle.bank.proofs.Frames.{laneAfter, frames-lanes, length-rows, rows-at}
-use Rattle.bank.proofs.Lent.{part-before, part-at, rest-back}
-use Rattle.bank.proofs.Rows.{row-fits}
+use Rattle.rows.proofs.Lent.{part-before, part-at, rest-back}
+use Rattle.rows.proofs.RowsDrawn.{row-fits}
 use Rattle.bank.proofs.Runs.{counted, ranLane, settledLane, run-whole}
 
 -- Lane i of row k.
@@ -44,6 +46,15 @@ drawn-due b S k i = go (split i (size b))
     go (inl h) =
         let e : voice (frames k b) i ≡ Voices.frames k (b .timing) (voice b i) = frames-lanes k b S .lane i (omega arith) ∙ rw (lt-ltb i (size b) h) in
         rw (lt-ltb i (size b) h) (ap (λ (v : Voice). Segments.level (v .seg)) (sym e))
+    go (inr h) = rw (le-ltb i (size b) h)
+
+-- A lane that is drawn within a run is the lane of the definition's rows.
+pub lane-due : (b : EnvelopeBank) → Sized b → (m : ℕ) → ((v : ℕ) → v < size b → Segments.Inside m (getD (b .left) v 0)) → (k i : ℕ) → k < m → i < strideOf (size b)
+    → laneAt (size b) k (b .u) (b .r) (b .d) (b .scale) (b .base) i ≡ getD (rows m b) (k * strideOf (size b) + i) nan
+lane-due b S m inside k i p q = go (split i (size b)) ∙ drawn-due b S k i ∙ sym (rows-at m b k i p q)
+  where
+    go : (i < size b) ⊎ (size b ≤ i) → laneAt (size b) k (b .u) (b .r) (b .d) (b .scale) (b .base) i ≡ drawnLane (size b) b k i
+    go (inl h) = ap (λ (x : Float). cond (ltb i (size b)) x Constants.zero) (level-within (b .timing) (voice b i) m k (inside i h) p)
     go (inr h) = rw (le-ltb i (size b) h)
 
 -- After `done` frames of a bank of n voices: its lanes, and the rows drawn so far.
@@ -63,10 +74,11 @@ ran-none n stride b out S =
     go v (inr h) = rw (le-ltb v n h)
 
 -- One run more: b₁ is b with its lanes counted on, b₂ that with what follows the segments that ended.
-module _ (n stride : ℕ) (b₀ b b₁ b₂ : EnvelopeBank) (done m most : ℕ) (out p′ u′ : List Float) (few : n ≤ 64)
+module _ (n stride : ℕ) (b₀ b b₁ b₂ : EnvelopeBank) (done m : ℕ) (out p′ : List Float) (few : n ≤ 64)
     (R : Ran n stride b₀ done b out)
-    (H : Shortest (b .left) n most m)
-    (D : RowsDrawn stride n m (b .u) (b .r) (b .d) (b .scale) (b .base) p′ u′)
+    (some : 1 ≤ m)
+    (inside : (v : ℕ) → v < n → Segments.Inside m (getD (b .left) v 0))
+    (D : (k i : ℕ) → k < m → i < stride → getD p′ (k * stride + i) nan ≡ laneAt n k (b .u) (b .r) (b .d) (b .scale) (b .base) i)
     (C : Lanes (b .timing) (ranLane n m b) b b₁)
     (Z : Lanes (b₀ .timing) (settledLane (b₀ .timing) n b₁) b₁ b₂)
     (fits : done * stride ≤ length out) where
@@ -82,7 +94,7 @@ module _ (n stride : ℕ) (b₀ b b₁ b₂ : EnvelopeBank) (done m most : ℕ) 
       let c : voice b₁ v ≡ counted m (voice b v) = C .lane v p ∙ rw (lt-ltb v n h) in
       let f : voice b₂ v ≡ followed t (voice b₁ v) = Z .lane v p ∙ rw (lt-ltb v n h) in
       rw (lt-ltb v n h)
-      (f ∙ ap (followed t) c ∙ sym (run-whole t (voice b v) m (H .some) (H .inside v h)) ∙ ap (Voices.frames m t) (was v h)
+      (f ∙ ap (followed t) c ∙ sym (run-whole t (voice b v) m some (inside v h)) ∙ ap (Voices.frames m t) (was v h)
       ∙ sym (frames-add t done m (voice b₀ v)))
   lane-next v p (inr h) =
       rw (le-ltb v n h) (Z .lane v p ∙ rw (le-ltb v n h) (C .lane v p ∙ rw (le-ltb v n h) (R .lanes .lane v p ∙ rw (le-ltb v n h))))
@@ -90,12 +102,12 @@ module _ (n stride : ℕ) (b₀ b b₁ b₂ : EnvelopeBank) (done m most : ℕ) 
   new-row : (k i : ℕ) → k < m → i < stride → (i < n) ⊎ (n ≤ i) → getD p′ (k * stride + i) nan ≡ drawnLane n b₀ (done + k) i
   new-row k i p q (inl h) =
       let e : drawnAt k (b .u) (b .r) (b .d) (b .scale) (b .base) i ≡ levelAt t (voice b₀ i) (done + k) =
-      level-within t (voice b i) m k (H .inside i h) p
+      level-within t (voice b i) m k (inside i h) p
       ∙ ap (λ (v : Voice). levelAt t v k) (was i h)
       ∙ ap (λ (v : Voice). Segments.level (v .seg)) (sym (frames-add t done k (voice b₀ i)))
       in
-      D .levels k i p q ∙ ap (λ (x : Float). cond (ltb i n) x Constants.zero) e
-  new-row k i p q (inr h) = D .levels k i p q ∙ rw (le-ltb i n h)
+      D k i p q ∙ ap (λ (x : Float). cond (ltb i n) x Constants.zero) e
+  new-row k i p q (inr h) = D k i p q ∙ rw (le-ltb i n h)
 
   pub ran-more : Ran n stride b₀ (done + m) b₂ (putMid (done * stride) (length out - done * stride) out p′)
   ran-more =

@@ -19,7 +19,8 @@ use Rattle.lane.specs.Voices as Voices
 use Rattle.envelope.specs.declared.envelopes.Envelope.{Envelope}
 use Rattle.bank.specs.declared.banks.EnvelopeBank.{EnvelopeBank}
 use Rattle.bank.specs.declared.banks.Answer.{Answer}
-use Rattle.bank.specs.Calls.{Opening, Call, Known, strideOf, ifAccepted, openingRefusal, opened, refusal}
+use Rattle.bank.specs.Calls.{Opening, Call, Known, ifAccepted, openingRefusal, opened, refusal}
+use Rattle.rows.specs.Strides.{strideOf}
 
 -- ---- voices
 

@@ -1,5 +1,5 @@
 -- The bank's calls, and the number that refuses each, read from the calls alone: document 01, 'The bank' and "No's, by call".
-use Prim.Native.Nat.{ℕ, zero, suc, _+_, _*_, _/_, _%_, max}
+use Prim.Native.Nat.{ℕ, zero, suc, _%_}
 use mathlib.Core.Bool.{Bool, cond, not}
 use lib.Dec.{ltb, eqb}
 use Rattle.numbers.specs.Constants as Constants
@@ -9,6 +9,7 @@ use Rattle.settings.specs.declared.settings.EnvelopeParams.{EnvelopeParams}
 use Rattle.settings.specs.declared.settings.Trigger.{Trigger}
 use Rattle.settings.specs.Settings.{amp}
 use Rattle.settings.specs.Refusals as Refusals
+use Rattle.rows.specs.Strides.{strideOf}
 
 -- ---- the calls
 
@@ -44,16 +45,6 @@ pub record Known : Type 0 where
 -- What an accepted call adds to it: nothing.
 abbrev pub learned : Known → Call → Known
 learned k c = k
-
--- ---- rows
-
--- Groups of 16 lanes that hold n voices, at least one.
-abbrev pub groupsOf : ℕ → ℕ
-groupsOf n = max 1 ((n + 15) / 16)
-
--- A row's lanes: the voice count rounded up to a multiple of 16, at least 16.
-abbrev pub strideOf : ℕ → ℕ
-strideOf n = 16 * groupsOf n
 
 -- ---- refusals
 

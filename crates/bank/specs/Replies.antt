@@ -13,7 +13,8 @@ use Rattle.bank.specs.declared.calls.StageReading.{StageReading}
 use Rattle.bank.specs.declared.calls.LevelReading.{LevelReading}
 use Rattle.bank.specs.declared.calls.IdleReading.{IdleReading}
 use Rattle.bank.specs.declared.calls.FramesReading.{FramesReading}
-use Rattle.bank.specs.Calls.{Query, Call, Known, strideOf, ifAccepted, refusal}
+use Rattle.bank.specs.Calls.{Query, Call, Known, ifAccepted, refusal}
+use Rattle.rows.specs.Strides.{strideOf}
 use Rattle.bank.specs.Banks.{size, known, envelope, rows}
 
 pub data Reply : Type 0 where

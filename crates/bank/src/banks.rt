@@ -3,14 +3,14 @@
 ghost use mathlib.Core.Path.{_≡_};
 ghost use Prim.Native.Nat.{min};
 ghost use Rattle.bank.specs.Banks as Banks;
+ghost use Rattle.rows.specs.Strides as Strides;
 ghost use Rattle.bank.specs.Calls as Calls;
 use lane::Lane;
+use rows::MAX_VOICES;
 use settings::ACCEPTED;
 use settings::EnvelopeParams;
 use settings::TOO_MANY_VOICES;
 use timing::Timing;
-
-pub const MAX_VOICES: usize = 64;
 
 // A bank has room for 64 voices, and `voices` of them.
 pub struct EnvelopeBank {
@@ -31,37 +31,11 @@ pub struct Answer {
     pub bank: EnvelopeBank,
 }
 
-// How many voices a bank has whose number of voices says `voices`: no more than there is room for.
-pub(crate) fn count(voices: usize) -> usize
-    ensures { λ r. ⌜ r ≡ min voices 64 ⌝ }
-{
-    if voices < MAX_VOICES {
-        return voices;
-    }
-    MAX_VOICES
-}
-
-// How many groups of 16 lanes hold the voices.
-pub(crate) fn groups(voices: usize) -> usize
-    ensures { λ r. ⌜ r ≡ Calls.groupsOf (min voices 64) ⌝ }
-{
-    if voices <= 16 {
-        return 1;
-    }
-    if voices <= 32 {
-        return 2;
-    }
-    if voices <= 48 {
-        return 3;
-    }
-    4
-}
-
 // The lanes of a row of so many voices.
 pub fn stride_of(voices: usize) -> usize
-    ensures { λ r. ⌜ r ≡ Calls.strideOf (min voices 64) ⌝ }
+    ensures { λ r. ⌜ r ≡ Strides.strideOf (min voices 64) ⌝ }
 {
-    16 * groups(voices)
+    16 * rows::groups(voices)
 }
 
 // Whether a fresh bank of these is refused.
@@ -118,12 +92,12 @@ impl EnvelopeBank {
     pub fn voices(self) -> usize
         ensures { λ r. ⌜ r ≡ Banks.size self ⌝ }
     {
-        count(self.voices)
+        rows::count(self.voices)
     }
 
     // The distance between one frame's levels and the next's in the output of `process`.
     pub fn stride(self) -> usize
-        ensures { λ r. ⌜ r ≡ Calls.strideOf (Banks.size self) ⌝ }
+        ensures { λ r. ⌜ r ≡ Strides.strideOf (Banks.size self) ⌝ }
     {
         stride_of(self.voices)
     }

@@ -7,7 +7,6 @@ mod drawing;
 
 pub use banks::Answer;
 pub use banks::EnvelopeBank;
-pub use banks::MAX_VOICES;
 pub use banks::refused_opening;
 pub use banks::stride_of;
 pub use calls::FramesReading;
@@ -15,3 +14,4 @@ pub use calls::IdleReading;
 pub use calls::LevelReading;
 pub use calls::ParamsReading;
 pub use calls::StageReading;
+pub use rows::MAX_VOICES;

@@ -6,7 +6,8 @@ use native.Mathlib.Omega.{arith}
 use native.Mathlib.Nat.{div-lt-iff-lt-mul, le-div-iff-mul-le}
 use borrow.Author.Tests.{lt-ltb, le-ltb, ltb-false}
 use lib.Dec.{ltb}
-use Rattle.bank.specs.Calls.{strideOf, ifAccepted, openingRefusal}
+use Rattle.bank.specs.Calls.{ifAccepted, openingRefusal}
+use Rattle.rows.specs.Strides.{strideOf}
 use Rattle.settings.specs.Refusals as Refusals
 use Rattle.events.specs.declared.Event.{Event}
 use Rattle.checking.specs.declared.Checked.{Checked}

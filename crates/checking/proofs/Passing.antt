@@ -8,7 +8,8 @@ use native.Mathlib.Nat.{le-trans, le-mul-of-pos-right}
 use borrow.Author.Tests.{lt-ltb, le-ltb, ltb-true, ltb-false, ne-eqb, eq-eqb}
 use lib.Dec.{ltb, eqb}
 use lib.ListN.{length}
-use Rattle.bank.specs.Calls.{strideOf, ifAccepted}
+use Rattle.bank.specs.Calls.{ifAccepted}
+use Rattle.rows.specs.Strides.{strideOf}
 use Rattle.events.specs.declared.Event.{Event}
 use Rattle.events.specs.declared.Reading.{Reading}
 use Rattle.events.specs.Format as Format

@@ -4,7 +4,8 @@ use mathlib.Core.Bool.{cond}
 use mathlib.Core.List.{List}
 use lib.Dec.{ltb, eqb}
 use lib.ListN.{length}
-use Rattle.bank.specs.Calls.{Known, strideOf, ifAccepted}
+use Rattle.bank.specs.Calls.{Known, ifAccepted}
+use Rattle.rows.specs.Strides.{strideOf}
 use Rattle.events.specs.declared.Event.{Event}
 use Rattle.events.specs.declared.Reading.{Reading}
 use Rattle.events.specs.Format as Format

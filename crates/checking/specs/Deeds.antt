@@ -1,7 +1,8 @@
 -- What an event does with a bank.
 use Prim.Native.Nat.{ℕ, _*_}
 use Rattle.events.specs.declared.Event.{Event}
-use Rattle.bank.specs.Calls.{Opening, opening, Call, Known, learned, strideOf, openingRefusal, refusal}
+use Rattle.bank.specs.Calls.{Opening, opening, Call, Known, learned, openingRefusal, refusal}
+use Rattle.rows.specs.Strides.{strideOf}
 
 -- It opens a bank, or it makes a call.
 pub data Deed : Type 0 where

@@ -11,7 +11,8 @@ use Rattle.curve.specs.Segments as Segments
 use Rattle.envelope.specs.declared.envelopes.Envelope.{Envelope}
 use Rattle.envelope.specs.Envelopes as Envelopes
 use Rattle.bank.specs.declared.banks.EnvelopeBank.{EnvelopeBank}
-use Rattle.bank.specs.Calls.{Query, Call, Known, strideOf, ifAccepted, queryRefusal, refusal}
+use Rattle.bank.specs.Calls.{Query, Call, Known, ifAccepted, queryRefusal, refusal}
+use Rattle.rows.specs.Strides.{strideOf}
 use Rattle.bank.specs.Banks.{voice, size, known, envelope, frames, row, rows, answer}
 use Rattle.bank.specs.Replies.{Reply, told, answered, reply}
 use Rattle.bank.proofs.Lanes.{tabulate-ext}

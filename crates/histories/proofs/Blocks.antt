@@ -7,7 +7,8 @@ use native.Mathlib.Nat.{mul-mod-left, mul-div-cancel}
 use lib.ListN.{length, length-append, replicate-append-replicate}
 use lib.Ieee.{Float}
 use Rattle.bank.specs.declared.banks.EnvelopeBank.{EnvelopeBank}
-use Rattle.bank.specs.Calls.{Opening, Call, Known, strideOf, refusal}
+use Rattle.bank.specs.Calls.{Opening, Call, Known, refusal}
+use Rattle.rows.specs.Strides.{strideOf}
 use Rattle.bank.specs.Banks.{size, known, frames, rows, moved, answer, new, written}
 use Rattle.histories.specs.Demand.{Entry, run, framesMore, effect, Reading, history, read, firstReading, reading}
 use Rattle.histories.specs.Demand.{bankAfter, repliesFrom, voicesOf, stride, block, writtenAfter, Cut}

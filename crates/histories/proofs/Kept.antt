@@ -13,7 +13,8 @@ use Rattle.lane.specs.declared.lanes.Voice.{Voice}
 use Rattle.envelope.specs.declared.envelopes.Envelope.{Envelope}
 use Rattle.bank.specs.declared.banks.EnvelopeBank.{EnvelopeBank}
 use Rattle.bank.specs.Calls as Calls
-use Rattle.bank.specs.Calls.{Call, Known, learned, strideOf, refusal}
+use Rattle.bank.specs.Calls.{Call, Known, learned, refusal}
+use Rattle.rows.specs.Strides.{strideOf}
 use Rattle.bank.specs.Banks.{voice, size, known, envelope, arrange, put, onAll, withTiming, frame, frames, moved}
 use Rattle.bank.proofs.Frames.{voice-onAll}
 use Rattle.histories.specs.Demand.{Entry, run, step, Effect, enter, copy, only, effect}

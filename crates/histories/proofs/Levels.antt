@@ -13,7 +13,8 @@ use lib.Ieee.{Float, nan}
 use Rattle.numbers.specs.Constants as Constants
 use Rattle.envelope.specs.Envelopes as Envelopes
 use Rattle.bank.specs.declared.banks.EnvelopeBank.{EnvelopeBank}
-use Rattle.bank.specs.Calls.{Opening, Call, Known, strideOf, ifAccepted, refusal}
+use Rattle.bank.specs.Calls.{Opening, Call, Known, ifAccepted, refusal}
+use Rattle.rows.specs.Strides.{strideOf}
 use Rattle.bank.specs.Banks.{size, known, rows, written}
 use Rattle.bank.proofs.Frames.{length-rows, rows-at}
 use Rattle.histories.specs.Demand.{levelOf, framesMore, Reading, history, reading, refusalAfter, voicesOf, bankAfter, Drawn}

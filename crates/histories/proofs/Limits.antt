@@ -19,7 +19,8 @@ use Rattle.envelope.specs.Calls as Single
 use Rattle.envelope.specs.Calls.{after, afterAll}
 use Rattle.envelope.proofs.Reachable.{Reachable, reachable, reachable-lead}
 use Rattle.envelope.proofs.Runs.{frames-voice}
-use Rattle.bank.specs.Calls.{Opening, opening, Call, Known, strideOf, ifAccepted, openingRefusal, opened, refusal}
+use Rattle.bank.specs.Calls.{Opening, opening, Call, Known, ifAccepted, openingRefusal, opened, refusal}
+use Rattle.rows.specs.Strides.{strideOf}
 use Rattle.histories.specs.Demand.{Entry, Fresh, run, step, envelopeOf, Effect, enter, copy, only, effect, changed}
 use Rattle.histories.specs.Demand.{Reading, grown, read, firstReading, reading, historyOf, Led}
 use Rattle.histories.proofs.Kept.{named}

@@ -9,7 +9,7 @@ use lib.Dec.{eqb}
 use lib.Ieee.{Float}
 use Rattle.lane.specs.declared.lanes.Voice.{Voice}
 use Rattle.bank.specs.declared.banks.EnvelopeBank.{EnvelopeBank}
-use Rattle.bank.specs.Calls.{strideOf}
+use Rattle.rows.specs.Strides.{strideOf}
 use Rattle.bank.specs.Banks.{voice, size, arrange, put, onAll, frame, frames, rows}
 use Rattle.bank.proofs.Lanes.{voice-arrange}
 use Rattle.bank.proofs.Frames.{rowNow}

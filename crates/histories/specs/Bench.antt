@@ -15,7 +15,7 @@ use Rattle.settings.specs.declared.stages.Stage.the-variants.{Attack, Decay, Su
 use Rattle.lane.specs.Planning.{new, spec, joinAttack, advance}
 use Rattle.lane.specs.Readings.{rest}
 use Rattle.lane.specs.Bench.{clock, settings, long, decaying, replanned, threeEighths}
-use Rattle.bank.specs.Calls.{strideOf}
+use Rattle.rows.specs.Strides.{strideOf}
 
 pub record Bench : Type 0 where
   -- unit(NaN) = unit(-0) = +0.

@@ -23,7 +23,8 @@ use Rattle.lane.specs.Schedule.{scheduled}
 use Rattle.envelope.specs.declared.envelopes.Envelope.{Envelope}
 use Rattle.envelope.specs.Envelopes as Envelopes
 use Rattle.bank.specs.declared.banks.EnvelopeBank.{EnvelopeBank}
-use Rattle.bank.specs.Calls.{Opening, Call, Known, learned, strideOf, ifAccepted, openingRefusal, opened, refusal}
+use Rattle.bank.specs.Calls.{Opening, Call, Known, learned, ifAccepted, openingRefusal, opened, refusal}
+use Rattle.rows.specs.Strides.{strideOf}
 use Rattle.bank.specs.Banks as Banks
 use Rattle.bank.specs.Replies as Replies
 use Rattle.bank.specs.Replies.{Reply}

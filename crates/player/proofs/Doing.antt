@@ -1,9 +1,11 @@
--- What an accepted event makes of the bank, by the turn that the code takes for it.
+-- What an accepted event makes of the bank, and by the turn that the code takes for it.
 use mathlib.Core.Path.{_≡_, refl, sym, ap, _∙_, subst}
 use mathlib.Core.Bool.{Bool, true, false, cond}
+use mathlib.Core.Logic.{_⊎_, inl, inr}
 use mathlib.Core.List.{[]}
-use Prim.Native.Nat.{ℕ, zero, suc, _<_, min}
+use Prim.Native.Nat.{ℕ, zero, suc, _+_, _<_, _≤_, min}
 use native.Mathlib.Omega.{arith}
+use Rattle.lane.specs.Voices as Voices
 use Rattle.bank.specs.declared.banks.EnvelopeBank.{EnvelopeBank}
 use Rattle.bank.specs.Calls as Calls
 use Rattle.bank.specs.Calls.{Opening, opening, Call, ifAccepted, openingRefusal, opened, refusal}
@@ -17,41 +19,33 @@ use Rattle.events.proofs.Records as Records
 use Rattle.checking.specs.Deeds.{opens, deed, ownRefusal, knownAfter, framesOf}
 use Rattle.checking.proofs.Judging.{if-accepted}
 use Rattle.player.specs.declared.turns.Turn.{Turn}
-use Rattle.player.specs.Parts.{turnOf, changed}
+use Rattle.player.specs.Parts.{one, all, turnOf}
 use Rattle.player.specs.Playing.{after, levels, handed}
 
--- ---- turns
+-- ---- events
 
-abbrev pub draws : Turn → Bool
-draws (Turn.Open n t p) = false
-draws (Turn.SetAllParams p) = false
-draws (Turn.SetTiming t) = false
-draws (Turn.Change v from) = false
-draws (Turn.Frames n) = true
+abbrev pub draws : Event → Bool
+draws (Event.Open n t p) = false
+draws (Event.SetParams v p) = false
+draws (Event.SetAllParams p) = false
+draws (Event.SetTiming t) = false
+draws (Event.Trigger v x) = false
+draws (Event.Release v) = false
+draws (Event.Reset v) = false
+draws (Event.Join v from) = false
+draws (Event.Frames n) = true
 
--- The frames that it owes.
-abbrev pub owing : Turn → ℕ
-owing (Turn.Open n t p) = 0
-owing (Turn.SetAllParams p) = 0
-owing (Turn.SetTiming t) = 0
-owing (Turn.Change v from) = 0
-owing (Turn.Frames n) = n
-
--- The lanes that it reads and writes are there.
-abbrev pub InLanes : Turn → Type 0
-InLanes (Turn.Open n t p) = Unit {0}
-InLanes (Turn.SetAllParams p) = Unit {0}
-InLanes (Turn.SetTiming t) = Unit {0}
-InLanes (Turn.Change v from) = (v < 64) × (from < 64)
-InLanes (Turn.Frames n) = Unit {0}
-
--- The bank after it. Frames are drawn later.
-abbrev pub turned : EnvelopeBank → Event → Turn → EnvelopeBank
-turned b e (Turn.Open n t p) = new (opening n p t) .bank
-turned b e (Turn.SetAllParams p) = answer b (Call.setAllParams p) .bank
-turned b e (Turn.SetTiming t) = answer b (Call.setTiming t) .bank
-turned b e (Turn.Change v from) = put v (changed (b .timing) e (voice b from)) b
-turned b e (Turn.Frames n) = b
+-- The bank after an event that draws nothing.
+abbrev pub turned : EnvelopeBank → Event → EnvelopeBank
+turned b (Event.Open n t p) = new (opening n p t) .bank
+turned b (Event.SetParams v p) = put v (Voices.setParams (b .timing) p (voice b v)) b
+turned b (Event.SetAllParams p) = onAll (Voices.setParams (b .timing) p) b
+turned b (Event.SetTiming t) = onAll (Voices.replan t) (withTiming t b)
+turned b (Event.Trigger v x) = put v (Voices.trigger (b .timing) x (voice b v)) b
+turned b (Event.Release v) = put v (Voices.release (b .timing) (voice b v)) b
+turned b (Event.Reset v) = put v (Voices.reset (b .timing) (voice b v)) b
+turned b (Event.Join v from) = put v (voice b from) b
+turned b (Event.Frames n) = b
 
 -- ---- accepted events
 
@@ -71,6 +65,18 @@ differ h =
     let e : _≡_ {A = ℕ} 1 0 = ap (λ (t : Bool). cond {A = ℕ} t 1 0) h in
     absurd (omega (arith, e))
 
+-- The lanes that a turn reads and writes are there, and a span of more than one voice reads what it writes.
+pub record InTurn (t : Turn) : Type 0 where
+  pub few : t .last ≤ 64
+  pub source : t .first < t .last → t .from < 64
+  pub straight : (t .from ≡ t .first) ⊎ (t .last ≤ t .first + 1)
+
+every : (n : ℕ) → n ≤ 64 → InTurn (all n)
+every n h = record { few = h; source = λ p. omega arith; straight = inl refl }
+
+single : (v from : ℕ) → v < 64 → from < 64 → InTurn (one v from)
+single v from h k = record { few = omega arith; source = λ p. k; straight = inr (omega arith) }
+
 module _ (b : EnvelopeBank) where
   abbrev pub own : Event → ℕ
   own e = ownRefusal (known b) (deed (known b) e)
@@ -80,33 +86,33 @@ module _ (b : EnvelopeBank) where
       let h = named (known b) v later z in
       (omega (arith, h .0), h .1)
 
-  pub in-lanes : (e : Event) → own e ≡ 0 → InLanes (turnOf e)
+  pub in-lanes : (e : Event) → own e ≡ 0 → InTurn (turnOf e (size b))
   unfolding turnOf deed ownRefusal refusal
-  in-lanes (Event.Open n t p) z = tt
-  in-lanes (Event.SetParams v p) z = let h = below v _ z in (h .0, h .0)
-  in-lanes (Event.SetAllParams p) z = tt
-  in-lanes (Event.SetTiming t) z = tt
-  in-lanes (Event.Trigger v x) z = let h = below v _ z in (h .0, h .0)
-  in-lanes (Event.Release v) z = let h = below v _ z in (h .0, h .0)
-  in-lanes (Event.Reset v) z = let h = below v _ z in (h .0, h .0)
-  in-lanes (Event.Join v from) z = let h = below v _ z in (h .0, below from _ (h .1) .0)
-  in-lanes (Event.Frames n) z = tt
+  in-lanes (Event.Open n t p) z = every 0 (omega arith)
+  in-lanes (Event.SetParams v p) z = single v v (below v _ z .0) (below v _ z .0)
+  in-lanes (Event.SetAllParams p) z = every (size b) (omega arith)
+  in-lanes (Event.SetTiming t) z = every (size b) (omega arith)
+  in-lanes (Event.Trigger v x) z = single v v (below v _ z .0) (below v _ z .0)
+  in-lanes (Event.Release v) z = single v v (below v _ z .0) (below v _ z .0)
+  in-lanes (Event.Reset v) z = single v v (below v _ z .0) (below v _ z .0)
+  in-lanes (Event.Join v from) z = single v from (below v _ z .0) (below from _ (below v _ z .1) .0)
+  in-lanes (Event.Frames n) z = record { few = omega arith; source = λ h. absurd (omega arith); straight = inl refl }
 
   -- What the player's definition says of it.
-  pub turned-after : (e : Event) → own e ≡ 0 → draws (turnOf e) ≡ false → after b (deed (known b) e) ≡ turned b e (turnOf e)
-  unfolding turnOf deed ownRefusal after moved changed
+  pub turned-after : (e : Event) → own e ≡ 0 → draws e ≡ false → after b (deed (known b) e) ≡ turned b e
+  unfolding deed ownRefusal after moved
   turned-after (Event.Open n t p) z q = refl
   turned-after (Event.SetParams v p) z q = accepted b (Call.setParams v p) z
-  turned-after (Event.SetAllParams p) z q = refl
-  turned-after (Event.SetTiming t) z q = refl
+  turned-after (Event.SetAllParams p) z q = accepted b (Call.setAllParams p) z
+  turned-after (Event.SetTiming t) z q = accepted b (Call.setTiming t) z
   turned-after (Event.Trigger v x) z q = accepted b (Call.trigger v x) z
   turned-after (Event.Release v) z q = accepted b (Call.release v) z
   turned-after (Event.Reset v) z q = accepted b (Call.reset v) z
   turned-after (Event.Join v from) z q = accepted b (Call.join v from) z
   turned-after (Event.Frames n) z q = absurd (differ q)
 
-  pub quiet : (e : Event) → draws (turnOf e) ≡ false → handed b (deed (known b) e) ≡ []
-  unfolding turnOf deed handed reply
+  pub quiet : (e : Event) → draws e ≡ false → handed b (deed (known b) e) ≡ []
+  unfolding deed handed reply
   quiet (Event.Open n t p) q = refl
   quiet (Event.SetParams v p) q = silent (refusal (known b) (Call.setParams v p)) _
   quiet (Event.SetAllParams p) q = silent (refusal (known b) (Call.setAllParams p)) _
@@ -117,8 +123,8 @@ module _ (b : EnvelopeBank) where
   quiet (Event.Join v from) q = silent (refusal (known b) (Call.join v from)) _
   quiet (Event.Frames n) q = absurd (differ q)
 
-  pub asks-none : (e : Event) → draws (turnOf e) ≡ false → framesOf e ≡ 0
-  unfolding turnOf framesOf
+  pub asks-none : (e : Event) → draws e ≡ false → framesOf e ≡ 0
+  unfolding framesOf
   asks-none (Event.Open n t p) q = refl
   asks-none (Event.SetParams v p) q = refl
   asks-none (Event.SetAllParams p) q = refl
@@ -138,24 +144,24 @@ module _ (b : EnvelopeBank) where
   unfolding new opened idle
   opened-voices o z = ap (λ (x : Opening). min (x .voices) 64) (if-accepted (openingRefusal o) o _ z)
 
-  pub turned-voices : (e : Event) → own e ≡ 0 → draws (turnOf e) ≡ false → size (turned b e (turnOf e)) ≡ min (knownAfter (known b) (deed (known b) e) .voices) 64
-  unfolding turnOf deed ownRefusal knownAfter moved put onAll arrange
+  pub turned-voices : (e : Event) → own e ≡ 0 → draws e ≡ false → size (turned b e) ≡ min (knownAfter (known b) (deed (known b) e) .voices) 64
+  unfolding deed ownRefusal knownAfter put onAll arrange
   turned-voices (Event.Open n t p) z q = opened-voices (opening n p t) z
   turned-voices (Event.SetParams v p) z q = twice
-  turned-voices (Event.SetAllParams p) z q = ap size (accepted b (Call.setAllParams p) z) ∙ twice
-  turned-voices (Event.SetTiming t) z q = ap size (accepted b (Call.setTiming t) z) ∙ twice
+  turned-voices (Event.SetAllParams p) z q = twice
+  turned-voices (Event.SetTiming t) z q = twice
   turned-voices (Event.Trigger v x) z q = twice
   turned-voices (Event.Release v) z q = twice
   turned-voices (Event.Reset v) z q = twice
   turned-voices (Event.Join v from) z q = twice
   turned-voices (Event.Frames n) z q = twice
 
-  pub turned-sized : Sized b → (e : Event) → own e ≡ 0 → Sized (turned b e (turnOf e))
-  unfolding turnOf deed ownRefusal moved put onAll new
+  pub turned-sized : Sized b → (e : Event) → own e ≡ 0 → Sized (turned b e)
+  unfolding deed ownRefusal put onAll new
   turned-sized S (Event.Open n t p) z = idle-sized _ _ _
   turned-sized S (Event.SetParams v p) z = arrange-sized _ b
-  turned-sized S (Event.SetAllParams p) z = subst Sized (sym (accepted b (Call.setAllParams p) z)) (arrange-sized _ b)
-  turned-sized S (Event.SetTiming t) z = subst Sized (sym (accepted b (Call.setTiming t) z)) (arrange-sized _ (withTiming t b))
+  turned-sized S (Event.SetAllParams p) z = arrange-sized _ b
+  turned-sized S (Event.SetTiming t) z = arrange-sized _ (withTiming t b)
   turned-sized S (Event.Trigger v x) z = arrange-sized _ b
   turned-sized S (Event.Release v) z = arrange-sized _ b
   turned-sized S (Event.Reset v) z = arrange-sized _ b
@@ -187,13 +193,12 @@ module _ (b : EnvelopeBank) where
   frames-after n = block-frames b (size b) n refl
 
   pub record Drawn (e : Event) : Type 0 where
-    pub asks : owing (turnOf e) ≡ framesOf e
     pub rows : handed b (deed (known b) e) ≡ rows (framesOf e) b
     pub bank : after b (deed (known b) e) ≡ frames (framesOf e) b
     pub voices : knownAfter (known b) (deed (known b) e) .voices ≡ size b
 
-  pub drawn : (e : Event) → draws (turnOf e) ≡ true → Drawn e
-  unfolding turnOf framesOf knownAfter deed
+  pub drawn : (e : Event) → draws e ≡ true → Drawn e
+  unfolding framesOf knownAfter deed
   drawn (Event.Open n t p) q = absurd (differ (sym q))
   drawn (Event.SetParams v p) q = absurd (differ (sym q))
   drawn (Event.SetAllParams p) q = absurd (differ (sym q))
@@ -202,4 +207,4 @@ module _ (b : EnvelopeBank) where
   drawn (Event.Release v) q = absurd (differ (sym q))
   drawn (Event.Reset v) q = absurd (differ (sym q))
   drawn (Event.Join v from) q = absurd (differ (sym q))
-  drawn (Event.Frames n) q = record { asks = refl; rows = frames-handed n; bank = frames-after n; voices = refl }
+  drawn (Event.Frames n) q = record { rows = frames-handed n; bank = frames-after n; voices = refl }

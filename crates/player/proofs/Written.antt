@@ -11,7 +11,8 @@ use lib.Ieee.{Float}
 use lib.ListN.{length, drop, length-append}
 use lib.Seq.{sets, sets-eq}
 use Rattle.bank.specs.declared.banks.EnvelopeBank.{EnvelopeBank}
-use Rattle.bank.specs.Calls.{strideOf, ifAccepted}
+use Rattle.bank.specs.Calls.{ifAccepted}
+use Rattle.rows.specs.Strides.{strideOf}
 use Rattle.bank.specs.Banks.{size, known, frames, rows}
 use Rattle.bank.proofs.Frames.{length-rows}
 use Rattle.histories.proofs.Rows.{frames-size}
@@ -24,7 +25,6 @@ use Rattle.checking.specs.Deeds.{deed, framesOf}
 use Rattle.checking.specs.Checks.{start, passed, judged, met, checkedFrom, checked}
 use Rattle.checking.proofs.Judging.{passed-few}
 use Rattle.checking.proofs.Passing.{some, refused-none, still, ended, next-check, Accepted, judged-accepted, checked-held, accepted-whole}
-use Rattle.player.specs.Parts.{turnOf}
 use Rattle.player.specs.Playing.{ifRecord, eventsFrom, events, unopened, after, handed, heard, levelBytes, refusedAt}
 use Rattle.player.proofs.Bytes.{length-bytes}
 use Rattle.player.proofs.Doing.{draws, turned-after, turned-voices, quiet, asks-none, same-voices, drawn}
@@ -43,9 +43,9 @@ module _ (room : ℕ) (b : EnvelopeBank) (l : List ℕ) (at asked : ℕ) (e : Ev
   few = omega (arith, passed-few (far at b asked) e next (omega arith) (A .own))
 
   voices-is : size b′ ≡ c .voices
-  voices-is = go (draws (turnOf e)) refl
+  voices-is = go (draws e) refl
     where
-      go : (t : Bool) → draws (turnOf e) ≡ t → size b′ ≡ c .voices
+      go : (t : Bool) → draws e ≡ t → size b′ ≡ c .voices
       go false q = ap size (turned-after b e (A .own) q) ∙ turned-voices b e (A .own) q ∙ few
       go true q =
           let D = drawn b e q in
@@ -63,9 +63,9 @@ module _ (room : ℕ) (b : EnvelopeBank) (l : List ℕ) (at asked : ℕ) (e : Ev
       go false h = ap (λ (n : ℕ). asked * strideOf n) (sym (same-voices b e (read-first l at e next is ∙ h)))
 
   more : length (handed b (deed (known b) e)) + asked * strideOf (size b) ≡ c .frames * strideOf (c .voices)
-  more = go (draws (turnOf e)) refl
+  more = go (draws e) refl
     where
-      go : (t : Bool) → draws (turnOf e) ≡ t → length (handed b (deed (known b) e)) + asked * strideOf (size b) ≡ c .frames * strideOf (c .voices)
+      go : (t : Bool) → draws e ≡ t → length (handed b (deed (known b) e)) + asked * strideOf (size b) ≡ c .frames * strideOf (c .voices)
       go false q =
           let x = ap (λ (xs : List Float). length xs) (quiet b e q) in
           let n : asked ≡ asked + framesOf e = omega (arith, asks-none b e q) in

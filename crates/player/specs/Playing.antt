@@ -1,5 +1,5 @@
 -- What a list is heard as, and what the console's host gets of it, in bytes.
-use Prim.Native.Nat.{ℕ, zero, suc, _/_, _%_}
+use Prim.Native.Nat.{ℕ, zero, suc}
 use mathlib.Core.List.{List, [], _∷_, _++_}
 use lib.IntN.{ℤ, pos, negℤ}
 use lib.ListN.{length, drop}
@@ -7,6 +7,7 @@ use lib.Ieee.{Float, binary32, toBits}
 use Rattle.numbers.specs.Constants as Constants
 use Rattle.timing.specs.Clock as Clock
 use Rattle.settings.specs.Settings.{amp}
+use Rattle.rows.specs.Rows.{lowestFirst}
 use Rattle.bank.specs.declared.banks.EnvelopeBank.{EnvelopeBank}
 use Rattle.bank.specs.Calls.{opening, ifAccepted}
 use Rattle.bank.specs.Banks as Banks
@@ -66,11 +67,6 @@ heard b [] = []
 heard b (e ∷ es) = let d = deed (Banks.known b) e in handed b d ++ heard (after b d) es
 
 -- ---- bytes
-
--- n bytes of a number, the lowest first.
-abbrev pub lowestFirst : ℕ → ℕ → List ℕ
-lowestFirst zero x = []
-lowestFirst (suc n) x = x % 256 ∷ lowestFirst n (x / 256)
 
 -- Four to a level: its bits.
 abbrev pub bytes : List Float → List ℕ

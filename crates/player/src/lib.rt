@@ -3,134 +3,97 @@
 mod turns;
 
 ghost use mathlib.Core.Path.{_≡_};
-ghost use Prim.Native.Nat.{_+_, _*_, _≤_, min};
 ghost use lib.IntN.{pos, negℤ};
-ghost use lib.ListN.{length, take};
+ghost use lib.ListN.{length};
 ghost use lib.Seq.{sets};
 ghost use Rattle.checking.specs.Checks as Checks;
 ghost use Rattle.player.specs.Playing as Playing;
-use crate::turns::Turn;
-use bank::EnvelopeBank;
 use curve::Segment;
 use events::Reading;
 use lane::Voice;
 use settings::ACCEPTED;
-use settings::EnvelopeParams;
-use timing::Timing;
 
-// The levels of a block: whole frames at each of the strides 16, 32, 48 and 64.
-const BLOCK: usize = 12288;
-
-fn least(a: usize, b: usize) -> usize
-    ensures { λ r. ⌜ r ≡ min a b ⌝ }
-{
-    if a < b {
-        return a;
-    }
-    b
-}
-
-// The bits' four bytes, the lowest first.
-fn put_bits(bits: u32, out: &mut [u8], at: usize)
-    requires { ⌜ at + 4 ≤ length (now out) ⌝ }
-    ensures { λ r. ⌜ now (out .exit) ≡ sets (now (out .entry)) at (Playing.lowestFirst 4 bits) ⌝ }
-{
-    out[at] = (bits % 0x100) as u8;
-    out[at + 1] = (bits / 0x100 % 0x100) as u8;
-    out[at + 2] = (bits / 0x100 / 0x100 % 0x100) as u8;
-    out[at + 3] = (bits / 0x100 / 0x100 / 0x100 % 0x100) as u8;
-}
-
-// The bytes of the first `count` levels.
-fn put_levels(levels: &[f32], count: usize, out: &mut [u8], at: usize)
-    requires { ⌜ (count ≤ length (now levels)) × (at + 4 * count ≤ length (now out)) ⌝ }
-    ensures { λ r. ⌜ now (out .exit) ≡ sets (now (out .entry)) at (Playing.bytes (take count (now (levels .entry)))) ⌝ }
-{
-    let mut i = 0;
-    while i < count {
-        put_bits(numbers::f32_to_bits(levels[i]), out, at + 4 * i);
-        i += 1;
-    }
-}
-
-// Plays a list that is accepted. Each turn draws a block of the frames that are owed, or else does
-// what the next record says. The bank stays in one place: an event that changes one voice stores it
-// in its lane, and only the other calls take and give back the whole bank.
+// Plays a list that is accepted. The bank is opened once, by the first record, and its arrays stay
+// where they are: each turn stores the voices that an event changes, or draws a run of the frames that
+// it asks for, after which the voices whose segment has ended change. All of it is one function, since
+// an array of plans can be lent to no other.
 fn play(list: &[u8], out: &mut [u8])
     requires { ⌜ Checks.checked (now list) (length (now out)) .refusal ≡ 0 ⌝ }
     ensures { λ r. ⌜ now (out .exit) ≡ sets (now (out .entry)) 0 (Playing.levelBytes (now (list .entry))) ⌝ }
 {
-    let mut levels = [0f32; BLOCK];
-    let mut b = EnvelopeBank::new(0, EnvelopeParams::AMP, Timing::new(0.0)).bank;
-    let mut at = 0;
+    let Reading::Record {
+        event: opening,
+        next: second,
+    } = events::read(list, 0)
+    else {
+        return;
+    };
+    let bank = turns::opened(opening);
+    let voices = bank.voices;
+    let count = rows::count(voices);
+    let row = 64 * rows::groups(voices);
+    let mut timing = bank.timing;
+    let mut lanes = bank.lanes;
+    let mut u = bank.u;
+    let mut r = bank.r;
+    let mut d = bank.d;
+    let mut scale = bank.scale;
+    let mut base = bank.base;
+    let mut left = bank.left;
+    let mut at = second;
     let mut to = 0;
-    let mut owed = 0;
-    let mut records = list.len();
-    loop {
-        if owed > 0 {
-            let stride = bank::stride_of(b.voices);
-            let frames = least(owed, BLOCK / stride);
-            let count = frames * stride;
-            b = b.process(&mut levels[0..count]).bank;
-            put_levels(&levels, count, out, to);
-            to += 4 * count;
-            owed -= frames;
-            continue;
-        }
-        if records == 0 {
-            return;
-        }
+    let mut records = list.len() - 1;
+    while records > 0 {
         records -= 1;
         let Reading::Record { event, next } = events::read(list, at) else {
             return;
         };
         at = next;
-        match turns::turn_of(event) {
-            Turn::Open {
-                voices,
-                timing,
-                params,
-            } => {
-                b = EnvelopeBank::new(voices, params, timing).bank;
-                continue;
-            }
-            Turn::SetAllParams(params) => {
-                b = b.set_all_params(params).bank;
-                continue;
-            }
-            Turn::SetTiming(timing) => {
-                b = b.set_timing(timing).bank;
-                continue;
-            }
-            Turn::Frames(count) => {
-                owed = count;
-                continue;
-            }
-            Turn::Change { voice, from } => {
-                let lane = b.lanes[from];
+        timing = turns::timing_after(event, timing);
+        let turn = turns::turn_of(event, count);
+        let mut v = turn.first;
+        let mut last = turn.last;
+        let mut from = turn.from;
+        let mut rest = turn.frames;
+        loop {
+            if v < last {
+                let lane = lanes[from];
                 let before = Voice {
                     lane: lane,
                     seg: Segment {
-                        u: b.u[from],
-                        r: b.r[from],
-                        d: b.d[from],
-                        scale: b.scale[from],
-                        base: b.base[from],
-                        left: b.left[from],
+                        u: u[from],
+                        r: r[from],
+                        d: d[from],
+                        scale: scale[from],
+                        base: base[from],
+                        left: left[from],
                     },
                 };
-                let after = turns::changed(before, b.timing, event);
-                let next = after.lane;
+                let after = turns::changed(before, timing, event);
+                let plan = after.lane;
                 let seg = after.seg;
-                b.lanes[voice] = next;
-                b.u[voice] = seg.u;
-                b.r[voice] = seg.r;
-                b.d[voice] = seg.d;
-                b.scale[voice] = seg.scale;
-                b.base[voice] = seg.base;
-                b.left[voice] = seg.left;
+                lanes[v] = plan;
+                u[v] = seg.u;
+                r[v] = seg.r;
+                d[v] = seg.d;
+                scale[v] = seg.scale;
+                base[v] = seg.base;
+                left[v] = seg.left;
+                v = turns::next(&left, turn.frames, last, v + 1);
+                from = v;
                 continue;
             }
+            if rest == 0 {
+                break;
+            }
+            let run = rows::shortest(&left, voices, rest as usize);
+            u = rows::draw_bytes(&mut out[to..], voices, run, u, &r, &d, &scale, &base);
+            left = rows::count_down(left, voices, run);
+            to += run as usize * row;
+            rest -= run;
+            v = rows::next_ended(&left, voices, 0);
+            last = count;
+            from = v;
         }
     }
 }

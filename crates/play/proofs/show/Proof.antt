@@ -3,7 +3,7 @@ use Prim.Native.Nat.{ℕ, _*_, _/_, min}
 use native.Mathlib.Omega.{arith}
 use native.Mathlib.Nat.{div-mul-le-self}
 use lib.ListN.{length}
-use Rattle.bank.specs.Calls.{strideOf}
+use Rattle.rows.specs.Strides.{strideOf}
 use Rattle.histories.proofs.Rows.{stride-holds}
 use Rattle.checking.proofs.Passing.{Held, checked-held}
 use borrow.Author.Needs.{needs}

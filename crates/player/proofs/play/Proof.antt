@@ -1,477 +1,629 @@
 use mathlib.Core.Path.{_≡_, refl, sym, ap, _∙_, subst}
-use mathlib.Core.Bool.{false}
-use Prim.Native.Nat.{ℕ, _+_, _*_, _-_, _/_, _^_, _≤_, _<_}
-use native.Mathlib.Omega.{arith}
-use native.Mathlib.Nat.{le-trans, mul-le-mul-right, div-mul-le-self, le-div-iff-mul-le}
-use borrow.Author.Needs.{needs}
+use mathlib.Core.Logic.{_⊎_, inl, inr}
 use mathlib.Core.List.{List}
-use lib.Ieee.{ofBits}
-use lib.ListN.{length, take}
+use Prim.Native.Nat.{ℕ, _+_, _*_, _-_, _^_, _≤_, _<_, min}
+use native.Mathlib.Omega.{arith}
+use borrow.Author.Needs.{needs}
+use borrow.Rule.Slice.PartMut.{midOf, putMid, same-len-mid}
+use lib.ListN.{length, getD, set}
 use Rattle.timing.specs.declared.Timing.{Timing}
-use Rattle.settings.specs.Settings.{amp}
-use Rattle.lane.specs.declared.lanes.Voice.{Voice}
+use Rattle.curve.specs.Segments.{Inside}
+use Rattle.rows.specs.Rows.{byteCell, Drawn}
+use Rattle.rows.specs.Runs as Runs
+use Rattle.rows.specs.Strides.{groupsOf}
+use Rattle.rows.proofs.RowsDrawn.{drawn-whole}
+use Rattle.rows.proofs.WithinRuns.{NextEnded, shortest-few, shortest-some, shortest-inside, next-ended}
 use Rattle.bank.specs.declared.banks.EnvelopeBank.{EnvelopeBank}
-use Rattle.bank.specs.declared.banks.Answer.{Answer}
-use Rattle.bank.specs.Calls.{Call, opening, strideOf}
-use Rattle.bank.specs.Banks.{blank, size, put, new, answer}
-use Rattle.bank.proofs.Lanes.{put-lane}
-use Rattle.histories.proofs.Blocks.{block-rows}
+use Rattle.bank.specs.Banks.{blank, voice, size, withTiming, frames}
+use Rattle.bank.proofs.Lanes.{Sized, Lanes, bankOf, putLane, put-sized}
+use Rattle.bank.proofs.Runs.{ranLane, ran-lanes}
 use Rattle.events.specs.declared.Event.{Event}
 use Rattle.events.specs.declared.Reading.{Reading}
 use Rattle.events.specs.Format as Format
 use Rattle.player.specs.declared.turns.Turn.{Turn}
-use Rattle.player.proofs.Bytes.{lent-long, block-long, block-front}
-use Rattle.player.proofs.Doing.{draws, InLanes, turned}
-use Rattle.player.proofs.Progress.{Played, begun, lanes-there, done, asked-for, block-fits, drew, no-records, no-record, finished}
+use Rattle.player.specs.Parts.{turnOf, changed, next}
+use Rattle.player.specs.Playing.{unopened}
+use Rattle.player.proofs.Bytes.{run-put}
+use Rattle.player.proofs.Doing.{InTurn}
+use Rattle.player.proofs.Pending.{pending, pending-none, pending-step, pending-run, frames-event, Later, next-later}
+use Rattle.player.proofs.Progress.{Played, begun, opened-first, lanes-there, not-opening, later-place, some-bytes, started, run-room, drew, no-records, no-record, finished}
 use Rattle.player.proofs.play.Statement.{statement}
 use Rattle.player.proofs.play.Tie as tie
 
+abbrev Inv-loop2 : tie.InvT-loop2
+Inv-loop2 list out₀ second voices count row timing lanes₀ u₀ r₀ d₀ scale₀ base₀ left₀ at to₀ records event next turn v₀ last₀ from₀ rest₀ out lanes u r d scale base left to v last from rest =
+    let b = bankOf voices timing lanes u r d scale base left in
+    let b₀ = bankOf voices timing lanes₀ u₀ r₀ d₀ scale₀ base₀ left₀ in
+    Sized b
+    × (last ≤ 64)
+    × (v < last → from < 64)
+    × ((from ≡ v) ⊎ (last ≤ v + 1))
+    × (rest ≤ turn .frames)
+    × ((o : List ℕ) → Played list o out₀ (pending event v₀ last₀ from₀ b₀) at to₀ rest₀ records → Played list o out (pending event v last from b) at to rest records)
+
+abbrev μ-loop2 : tie.MeasureT-loop2
+μ-loop2 list out₀ second voices count row timing lanes₀ u₀ r₀ d₀ scale₀ base₀ left₀ at to₀ records event next turn v₀ last₀ from₀ rest₀ out lanes u r d scale base left to v last from rest = rest * 65 + (last - v)
+
 abbrev Inv-loop : tie.InvT-loop
-Inv-loop list out₀ levels₀ b₀ at₀ to₀ owed₀ records₀ out levels b at to owed records = Played list out₀ out b at to owed records × (owed < 2 ^ 64) × (length levels ≡ 12288)
+Inv-loop list out₀ second voices count row timing₀ lanes₀ u₀ r₀ d₀ scale₀ base₀ left₀ at₀ to₀ records₀ out timing lanes u r d scale base left at to records = Played list out₀ out (bankOf voices timing lanes u r d scale base left) at to 0 records × (at ≡ 0 → ⊥)
 
 abbrev μ-loop : tie.MeasureT-loop
-μ-loop list out₀ levels₀ b₀ at₀ to₀ owed₀ records₀ out levels b at to owed records = records * 2 ^ 64 + owed
+μ-loop list out₀ second voices count row timing₀ lanes₀ u₀ r₀ d₀ scale₀ base₀ left₀ at₀ to₀ records₀ out timing lanes u r d scale base left at to records = records
 
--- ---- places: from what a turn's event was back to the loop
+-- ---- places: from a turn back to the loop over the records and to the start
 
-abbrev loop-of : tie.After-turn-of Inv-loop μ-loop → tie.At-loop Inv-loop μ-loop
+abbrev start-of : tie.At-loop Inv-loop2 μ-loop2 Inv-loop μ-loop → tie.Start Inv-loop2 μ-loop2 Inv-loop μ-loop
+start-of c = c .before .before .before .before .before .before .before .before .before .before .before .before .before .before .before .before .before .before
+
+abbrev list-of : tie.At-loop Inv-loop2 μ-loop2 Inv-loop μ-loop → List ℕ
+list-of c = start-of c .args .list .now
+
+abbrev output-of : tie.At-loop Inv-loop2 μ-loop2 Inv-loop μ-loop → List ℕ
+output-of c = start-of c .args .out .now
+
+abbrev opened-of : tie.At-loop Inv-loop2 μ-loop2 Inv-loop μ-loop → EnvelopeBank
+opened-of c = c .before .before .before .before .before .before .before .before .before .before .before .opened .result
+
+abbrev bank-of : tie.At-loop Inv-loop2 μ-loop2 Inv-loop μ-loop → EnvelopeBank
+bank-of c =
+    let l = c .loop in
+    bankOf (opened-of c .voices) (l .timing) (l .lanes) (l .u) (l .r) (l .d) (l .scale) (l .base) (l .left)
+
+abbrev loop-of : tie.After-turn-of Inv-loop2 μ-loop2 Inv-loop μ-loop → tie.At-loop Inv-loop2 μ-loop2 Inv-loop μ-loop
 loop-of c = c .before .before .before .before .before .before .before
 
-abbrev list-of : tie.At-loop Inv-loop μ-loop → List ℕ
-list-of c = c .before .before .before .before .before .before .args .list .now
+abbrev event-of : tie.After-turn-of Inv-loop2 μ-loop2 Inv-loop μ-loop → Event
+event-of c = c .before .before .before .event .given .0 .0
 
-abbrev output-of : tie.At-loop Inv-loop μ-loop → List ℕ
-output-of c = c .before .before .before .before .before .before .args .out .now
+abbrev next-of : tie.After-turn-of Inv-loop2 μ-loop2 Inv-loop μ-loop → ℕ
+next-of c = c .before .before .before .event .given .0 .1 .0
 
-abbrev event-of : tie.After-turn-of Inv-loop μ-loop → Event
-event-of c = c .before .before .event .given .0 .0
+is-record : (c : tie.After-turn-of Inv-loop2 μ-loop2 Inv-loop μ-loop) → Format.read (list-of (loop-of c)) (loop-of c .loop .at) ≡ Reading.Record (event-of c) (next-of c)
+is-record c = sym (c .before .before .before .before .before .read2 .ensures) ∙ c .before .before .before .event .given .1
 
-abbrev next-of : tie.After-turn-of Inv-loop μ-loop → ℕ
-next-of c = c .before .before .event .given .0 .1 .0
+more-left : (c : tie.After-turn-of Inv-loop2 μ-loop2 Inv-loop μ-loop) → 0 < loop-of c .loop .records
+more-left c = omega (arith, c .before .before .before .before .before .before .loop-test .taken)
 
--- The record that was read, when nothing was owed.
-is-record : (c : tie.After-turn-of Inv-loop μ-loop) → Format.read (list-of (loop-of c)) (loop-of c .loop .at) ≡ Reading.Record (event-of c) (next-of c)
-is-record c = sym (c .before .before .before .before .read .ensures) ∙ c .before .before .event .given .1
+turn-is : (c : tie.After-turn-of Inv-loop2 μ-loop2 Inv-loop μ-loop) → turnOf (event-of c) (size (bank-of (loop-of c))) ≡ c .turn-of .result
+turn-is c = ap (turnOf (event-of c)) (sym (loop-of c .before .before .before .before .before .before .before .before .before .before .count .ensures)) ∙ sym (c .turn-of .ensures)
 
-nothing-owed : (c : tie.After-turn-of Inv-loop μ-loop) → loop-of c .loop .owed ≡ 0
-nothing-owed c = omega (arith, c .before .before .before .before .before .before .if1 .left)
+in-turn : (c : tie.After-turn-of Inv-loop2 μ-loop2 Inv-loop μ-loop) → InTurn (c .turn-of .result)
+in-turn c =
+    subst InTurn (turn-is c)
+    (lanes-there _ _ _ (bank-of (loop-of c)) _ _ _ (loop-of c .loop .inv .0) (more-left c) (event-of c) (next-of c) (is-record c))
 
-more-left : (c : tie.After-turn-of Inv-loop μ-loop) → 0 < loop-of c .loop .records
-more-left c = omega (arith, c .before .before .before .before .before .if2 .left)
+-- The bank with the timing that the event leaves.
+abbrev timed-of : tie.After-turn-of Inv-loop2 μ-loop2 Inv-loop μ-loop → EnvelopeBank
+timed-of c = withTiming (c .before .timing-after .result) (bank-of (loop-of c))
 
-played : (c : tie.After-turn-of Inv-loop μ-loop)
-    → let l = loop-of c .loop in
-    Played (list-of (loop-of c)) (output-of (loop-of c)) (l .out) (l .b) (l .at) (l .to) 0 (l .records)
-played c =
+begins : (c : tie.After-turn-of Inv-loop2 μ-loop2 Inv-loop μ-loop)
+    → let t = c .turn-of .result in
     let l = loop-of c .loop in
-    subst (λ (n : ℕ). Played (list-of (loop-of c)) (output-of (loop-of c)) (l .out) (l .b) (l .at) (l .to) n (l .records)) (nothing-owed c) (l .inv .0)
-
--- The lanes that a change names are there.
-changes : (c : tie.After-voice Inv-loop μ-loop) → (c .voice .given .0 .0 < 64) × (c .voice .given .0 .1 .0 < 64)
-changes c =
-    let c₂ = c .before .before in
-    subst InLanes (sym (c₂ .turn-of .ensures) ∙ c .voice .given .1)
-    (lanes-there _ _ _ _ _ _ _ (played c₂) (more-left c₂) (event-of c₂) (next-of c₂) (is-record c₂))
-
--- A turn that draws nothing.
-went : (c : tie.After-turn-of Inv-loop μ-loop) (t : Turn) → c .turn-of .result ≡ t → draws t ≡ false → (b : EnvelopeBank)
-    → b ≡ turned (loop-of c .loop .b) (event-of c) t
-    → let l = loop-of c .loop in
-    Played (list-of (loop-of c)) (output-of (loop-of c)) (l .out) b (next-of c) (l .to) (l .owed) (l .records - 1)
-went c t e q b b-is =
+    Played (list-of (loop-of c)) (output-of (loop-of c)) (l .out) (pending (event-of c) (t .first) (t .last) (t .from) (timed-of c)) (next-of c) (l .to) (t .frames) (l .records - 1)
+begins c =
     let l = loop-of c .loop in
-    subst (λ (n : ℕ). Played (list-of (loop-of c)) (output-of (loop-of c)) (l .out) b (next-of c) (l .to) n (l .records - 1)) (sym (nothing-owed c))
-    (done _ _ _ _ _ _ _ (played c) (more-left c) (event-of c) (next-of c) (is-record c) t (sym (c .turn-of .ensures) ∙ e) q b b-is)
+    let b = bank-of (loop-of c) in
+    let e = event-of c in
+    subst (λ (t : Turn). Played (list-of (loop-of c)) (output-of (loop-of c)) (l .out) (pending e (t .first) (t .last) (t .from) (timed-of c)) (next-of c) (l .to) (t .frames) (l .records - 1)) (turn-is c)
+    (subst (λ (τ : Timing). let t = turnOf e (size b) in Played (list-of (loop-of c)) (output-of (loop-of c)) (l .out) (pending e (t .first) (t .last) (t .from) (withTiming τ b)) (next-of c) (l .to) (t .frames) (l .records - 1)) (sym (c .before .timing-after .ensures))
+    (started _ _ _ b _ _ _ (l .inv .0) (more-left c) e (next-of c) (is-record c) (not-opening _ _ e (next-of c) (is-record c) (l .inv .1))))
 
--- ---- places: from a block back to the loop
+-- ---- places: from a change or a run back to the turn
 
-abbrev drawing-of : tie.After-least Inv-loop μ-loop → tie.At-loop Inv-loop μ-loop
-drawing-of c = c .before .before .before
+abbrev turn-of : tie.At-loop2 Inv-loop2 μ-loop2 Inv-loop μ-loop → tie.After-turn-of Inv-loop2 μ-loop2 Inv-loop μ-loop
+turn-of c = c .before
 
-stride-is : (c : tie.After-least Inv-loop μ-loop) → c .before .stride-of .result ≡ strideOf (size (drawing-of c .loop .b))
-stride-is c = c .before .stride-of .ensures
+abbrev bank-now : tie.At-loop2 Inv-loop2 μ-loop2 Inv-loop μ-loop → EnvelopeBank
+bank-now c =
+    let l = c .loop2 in
+    bankOf (opened-of (loop-of (turn-of c)) .voices) (turn-of c .before .timing-after .result) (l .lanes) (l .u) (l .r) (l .d) (l .scale) (l .base) (l .left)
 
--- Its frames are owed, there is one at least, and its levels fit the block.
-block : (c : tie.After-least Inv-loop μ-loop)
-    → let m = c .least .result in
-    (m ≤ drawing-of c .loop .owed) × (1 ≤ m) × (m * c .before .stride-of .result ≤ 12288)
-block c =
-    let s = c .before .stride-of .result in
-    let e = stride-is c in
-    let some : 1 ≤ s = omega arith in
-    let few : 1 * s ≤ 12288 = omega arith in
-    let one : 1 ≤ 12288 / s = le-div-iff-mul-le some .1 few in
-    let low : c .least .result ≤ 12288 / s = omega (arith, c .least .ensures) in
-    let whole = le-trans (mul-le-mul-right s low) (div-mul-le-self 12288 s) in
-    (omega (arith, c .least .ensures), omega (arith, c .least .ensures, one, c .before .before .if1 .taken), whole)
+played : (c : tie.At-loop2 Inv-loop2 μ-loop2 Inv-loop μ-loop)
+    → let l = c .loop2 in
+    let t = turn-of c in
+    Played (list-of (loop-of t)) (output-of (loop-of t)) (l .out) (pending (event-of t) (l .v) (l .last) (l .from) (bank-now c)) (next-of t) (l .to) (l .rest) (loop-of t .loop .records - 1)
+played c = c .loop2 .inv .5 (output-of (loop-of (turn-of c))) (begins (turn-of c))
 
--- It fits the output.
-fits : (c : tie.After-least Inv-loop μ-loop)
-    → let l = drawing-of c .loop in
-    l .to + 4 * (c .least .result * c .before .stride-of .result) ≤ length (l .out)
-fits c =
-    let l = drawing-of c .loop in
-    subst (λ (s : ℕ). l .to + 4 * (c .least .result * s) ≤ length (l .out)) (sym (stride-is c)) (block-fits _ _ _ _ _ _ _ _ (l .inv .0) (c .least .result) (block c .0))
+-- ---- a change
 
-short : (c : tie.After-least Inv-loop μ-loop) → c .least .result * c .before .stride-of .result ≤ length (drawing-of c .loop .levels)
-short c = omega (arith, block c .2, drawing-of c .loop .inv .2)
+from-there : (c : tie.Then1 Inv-loop2 μ-loop2 Inv-loop μ-loop) → c .before .loop2 .from < 64
+from-there c = c .before .loop2 .inv .2 (c .if1 .taken)
 
-new-requires : tie.Need-new-requires Inv-loop μ-loop
-new-requires c κs = search needs
+there : (c : tie.Then1 Inv-loop2 μ-loop2 Inv-loop μ-loop) → c .before .loop2 .v < 64
+there c = omega (arith, c .if1 .taken, c .before .loop2 .inv .1)
 
-new-requires-2 : tie.Need-new-requires-2 Inv-loop μ-loop
-new-requires-2 c κs = search needs
+-- The next voice, and that those between are left alone.
+step : (c : tie.After-next Inv-loop2 μ-loop2 Inv-loop μ-loop)
+    → let l = c .before .before .before .before .before .before .before .loop2 in
+    let t = turn-of (c .before .before .before .before .before .before .before) in
+    let b = bank-now (c .before .before .before .before .before .before .before) in
+    (l .v + 1 ≤ c .next .result) × (c .next .result ≤ l .last) × ((w : ℕ) → l .v + 1 ≤ w → w < c .next .result → changed (b .timing) (event-of t) (voice b w) ≡ voice b w)
+step c =
+    let l = c .before .before .before .before .before .before .before .loop2 in
+    let t = turn-of (c .before .before .before .before .before .before .before) in
+    let b = bank-now (c .before .before .before .before .before .before .before) in
+    let left = c .before .before .before .before .changed .result .seg .left in
+    let e = ap (λ (x : Turn). x .frames) (t .turn-of .ensures) in
+    let is : c .next .result ≡ next (turnOf (event-of t) (loop-of t .before .before .before .before .before .before .before .before .before .before .count .result) .frames) (set (l .left) (l .v) left) (l .last) (l .v + 1) =
+    c .next .ensures ∙ ap (λ (f : ℕ). next f (set (l .left) (l .v) left) (l .last) (l .v + 1)) e
+    in
+    subst (Later (event-of t) (loop-of t .before .before .before .before .before .before .before .before .before .before .count .result) b (l .v) (l .last) left (c .before .before .before .before .before .before .if1 .taken) (l .inv .1)) (sym is)
+    (next-later (event-of t) (loop-of t .before .before .before .before .before .before .before .before .before .before .count .result) b (l .v) (l .last) left (c .before .before .before .before .before .before .if1 .taken) (l .inv .1))
 
-loop-holds : tie.Need-loop-holds Inv-loop μ-loop
-unfolding ofBits
-loop-holds c =
-    let c₅ = c .before .before .before .before .before in
-    (begun (c₅ .args .list .now) (c₅ .args .out .now) _ (ap (λ (x : Answer). x .bank) (c .before .new2 .ensures ∙ ap (λ (t : Timing). new (opening 0 amp t)) (c .before .before .new .ensures))) (c₅ .pre), omega arith, refl)
+-- ---- a run
 
-stride-of-requires : tie.Need-stride-of-requires Inv-loop μ-loop
-stride-of-requires c κs = search needs
+abbrev run-loop : tie.After-shortest Inv-loop2 μ-loop2 Inv-loop μ-loop → tie.At-loop2 Inv-loop2 μ-loop2 Inv-loop μ-loop
+run-loop c = c .before .before .before .before
 
-div-least : tie.Need-div-least Inv-loop μ-loop
-div-least c = search needs
+-- Nothing is pending.
+settled : (c : tie.After-shortest Inv-loop2 μ-loop2 Inv-loop μ-loop) (o : List ℕ)
+    → let l = run-loop c .loop2 in
+    let t = turn-of (run-loop c) in
+    Played (list-of (loop-of t)) o (l .out) (pending (event-of t) (l .v) (l .last) (l .from) (bank-now (run-loop c))) (next-of t) (l .to) (l .rest) (loop-of t .loop .records - 1)
+    → Played (list-of (loop-of t)) o (l .out) (bank-now (run-loop c)) (next-of t) (l .to) (l .rest) (loop-of t .loop .records - 1)
+settled c o P =
+    let l = run-loop c .loop2 in
+    let t = turn-of (run-loop c) in
+    subst (λ (b : EnvelopeBank). Played (list-of (loop-of t)) o (l .out) b (next-of t) (l .to) (l .rest) (loop-of t .loop .records - 1))
+    (pending-none (event-of t) (l .v) (l .last) (l .from) (bank-now (run-loop c)) (l .inv .0) (omega (arith, c .before .before .before .if1 .left))) P
 
-least-requires : tie.Need-least-requires Inv-loop μ-loop
-least-requires c κs = search needs
-
-mul-count : tie.Need-mul-count Inv-loop μ-loop
-mul-count c = record { fits = omega (arith, block c) }
-
-sub-process : tie.Need-sub-process Inv-loop μ-loop
-sub-process c = search needs
-
-part-levels-start : tie.Need-part-levels-start Inv-loop μ-loop
-part-levels-start c = search needs
-
-part-levels-end : tie.Need-part-levels-end Inv-loop μ-loop
-part-levels-end c = omega (arith, short c)
-
-process-requires : tie.Need-process-requires Inv-loop μ-loop
-process-requires c κs = search needs
-
-slice-aggregate-put-levels : tie.Need-slice-aggregate-put-levels Inv-loop μ-loop
-slice-aggregate-put-levels c =
-    let c₅ = c .before .before .before .before .before in
-    let l = drawing-of c₅ .loop in
-    let q = c .before .before .before .process in
-    sym (block-long (l .levels) (q .last .1 .0) (c₅ .least .result * c₅ .before .stride-of .result) (short c₅) (q .kept .1 .0) ∙ l .inv .2)
-
-put-levels-requires : tie.Need-put-levels-requires Inv-loop μ-loop
-put-levels-requires c κs =
-    let c₆ = c .before .before .before .before .before .before in
-    let l = drawing-of c₆ .loop in
-    let q = c .before .before .before .before .process in
-    let n = block-long (l .levels) (q .last .1 .0) (c₆ .least .result * c₆ .before .stride-of .result) (short c₆) (q .kept .1 .0) in
-    (omega (arith, short c₆, n), fits c₆)
-
-mul-to : tie.Need-mul-to Inv-loop μ-loop
-mul-to c = record { fits = omega (arith, block (c .before .before .before .before .before .before .before .before .before)) }
-
-add-to : tie.Need-add-to Inv-loop μ-loop
-add-to c =
-    let c₉ = c .before .before .before .before .before .before .before .before .before in
-    let l = drawing-of c₉ in
-    record { fits = omega (arith, fits c₉, l .loop .inv .0 .long, l .before .before .before .before .before .before .good .1 .0) }
-
-sub-owed : tie.Need-sub-owed Inv-loop μ-loop
-sub-owed c = search needs
-
-loop-less : tie.Need-loop-less Inv-loop μ-loop
-loop-less c =
-    let c₉ = c .before .before .before .before .before .before .before .before .before in
-    let l = drawing-of c₉ .loop in
-    let h : l .records * 2 ^ 64 + (l .owed - c₉ .least .result) < l .records * 2 ^ 64 + l .owed = omega (arith, block c₉ .0, block c₉ .1) in
-    h
-
-loop-again : tie.Need-loop-again Inv-loop μ-loop
-loop-again c =
-    let c₉ = c .before .before .before .before .before .before .before .before .before in
-    let l = drawing-of c₉ .loop in
-    let q = c .before .before .before .before .before .before .before .process in
-    let m = c₉ .least .result in
-    let n = m * c₉ .before .stride-of .result in
-    let lent = take (n - 0) (l .levels) in
-    let long : length lent ≡ m * strideOf (size (l .b)) = lent-long (l .levels) (q .last .1 .0) n (short c₉) (q .kept .1 .0) ∙ ap (λ (s : ℕ). m * s) (stride-is c₉) in
-    let bank-is = ap (λ (x : Answer). x .bank) (q .ensures .0) ∙ ap (λ (k : ℕ). answer (l .b) (Call.process k) .bank) long in
-    let rows-is = block-front (l .levels) (q .last .1 .0) n (short c₉) (q .kept .1 .0) ∙ q .ensures .1 ∙ block-rows (l .b) (size (l .b)) m lent refl long in
-    let P = drew _ _ _ _ _ _ _ _ (l .inv .0) m (block c₉ .0) _ _ _ bank-is rows-is (c .before .before .put-levels .ensures) in (
-      subst (λ (s : ℕ). Played (list-of (drawing-of c₉)) (output-of (drawing-of c₉)) (c .before .before .put-levels .last .1 .1 .0) (q .result .bank) (l .at) (l .to + 4 * (m * s)) (l .owed - m) (l .records)) (sym (stride-is c₉)) P,
-      omega (arith, l .inv .1),
-      block-long (l .levels) (q .last .1 .0) n (short c₉) (q .kept .1 .0) ∙ l .inv .2,
+run-is : (c : tie.After-shortest Inv-loop2 μ-loop2 Inv-loop μ-loop)
+    → let l = run-loop c .loop2 in
+    let m = c .shortest .result in
+    (1 ≤ m) × (m ≤ l .rest) × (m ≤ 256) × ((v : ℕ) → v < size (bank-now (run-loop c)) → Inside m (getD (l .left) v 0))
+run-is c =
+    let l = run-loop c .loop2 in
+    let n = size (bank-now (run-loop c)) in
+    let e = c .shortest .ensures .0 in
+    let k = c .before .before .if2 .left in
+    let most = min (l .rest) Runs.most in (
+      omega (arith, e, shortest-some n (l .left) most (omega (arith, k))),
+      omega (arith, e, shortest-few n (l .left) most),
+      omega (arith, e, shortest-few n (l .left) most),
+      λ v h. (c .shortest .ensures .1 v h, λ d. omega (arith, e, shortest-inside n (l .left) most v h)),
     )
 
-same-length : tie.Need-same-length Inv-loop μ-loop
-same-length c = search needs
+row-is : (c : tie.After-shortest Inv-loop2 μ-loop2 Inv-loop μ-loop) → loop-of (turn-of (run-loop c)) .before .before .before .before .before .before .before .before .before .groups .result ≡ groupsOf (size (bank-now (run-loop c)))
+row-is c = loop-of (turn-of (run-loop c)) .before .before .before .before .before .before .before .before .before .groups .ensures
 
-returns : tie.Need-returns Inv-loop μ-loop
-returns c =
-    let c₂ = c .before .before in
-    let l = c₂ .loop in
-    let e : l .owed ≡ 0 = omega (arith, c .before .if1 .left) in
-    let P = subst (λ (n : ℕ). Played (list-of c₂) (output-of c₂) (l .out) (l .b) (l .at) (l .to) n (l .records)) e (l .inv .0) in
-    finished _ _ _ _ _ _ _ P (no-records (list-of c₂) (l .at) (l .records) (c .if2 .taken))
+-- A run's bytes are in the output.
+room : (c : tie.After-shortest Inv-loop2 μ-loop2 Inv-loop μ-loop) (o : List ℕ)
+    → let l = run-loop c .loop2 in
+    let t = turn-of (run-loop c) in
+    Played (list-of (loop-of t)) o (l .out) (pending (event-of t) (l .v) (l .last) (l .from) (bank-now (run-loop c))) (next-of t) (l .to) (l .rest) (loop-of t .loop .records - 1)
+    → l .to + c .shortest .result * (64 * groupsOf (size (bank-now (run-loop c)))) ≤ length (l .out)
+room c o P =
+    let m = c .shortest .result in
+    let g = groupsOf (size (bank-now (run-loop c))) in
+    let e : 4 * (m * (16 * g)) ≡ m * (64 * g) = omega arith in
+    omega (arith, e, run-room _ _ _ _ _ _ _ _ (settled c o P) m (run-is c .1))
 
-sub-records : tie.Need-sub-records Inv-loop μ-loop
-sub-records c = search needs
+fits : (c : tie.After-shortest Inv-loop2 μ-loop2 Inv-loop μ-loop)
+    → run-loop c .loop2 .to + c .shortest .result * (64 * loop-of (turn-of (run-loop c)) .before .before .before .before .before .before .before .before .before .groups .result) ≤ length (run-loop c .loop2 .out)
+fits c =
+    let l = run-loop c .loop2 in
+    subst (λ (g : ℕ). l .to + c .shortest .result * (64 * g) ≤ length (l .out)) (sym (row-is c)) (room c (output-of (loop-of (turn-of (run-loop c)))) (played (run-loop c)))
 
-read-requires : tie.Need-read-requires Inv-loop μ-loop
+bounded : (c : tie.After-shortest Inv-loop2 μ-loop2 Inv-loop μ-loop) → length (run-loop c .loop2 .out) < 2 ^ 64
+bounded c =
+    let t = turn-of (run-loop c) in
+    omega (arith, played (run-loop c) .long, start-of (loop-of t) .good .1 .0)
+
+abbrev run-of : tie.After-next-ended Inv-loop2 μ-loop2 Inv-loop μ-loop → tie.After-shortest Inv-loop2 μ-loop2 Inv-loop μ-loop
+run-of c = c .before .before .before .before .before .before .before .before .before .before .before
+
+-- The bank after a run's rows, before anything follows a segment that ended.
+abbrev counted-bank : tie.After-next-ended Inv-loop2 μ-loop2 Inv-loop μ-loop → EnvelopeBank
+counted-bank c =
+    let b = bank-now (run-loop (run-of c)) in
+    bankOf (b .voices) (b .timing) (b .lanes) (c .before .before .before .before .before .draw-bytes .result) (b .r) (b .d) (b .scale) (b .base) (c .before .before .count-down .result)
+
+abbrev lent : tie.After-next-ended Inv-loop2 μ-loop2 Inv-loop μ-loop → List ℕ
+lent c =
+    let l = run-loop (run-of c) .loop2 in
+    midOf (l .to) (length (l .out) - l .to) (l .out)
+
+drawn : (c : tie.After-next-ended Inv-loop2 μ-loop2 Inv-loop μ-loop)
+    → let b = bank-now (run-loop (run-of c)) in
+    Drawn 0 64 byteCell (groupsOf (size b)) (size b) (run-of c .shortest .result) (b .u) (b .r) (b .d) (b .scale) (b .base) (lent c) (c .before .before .before .before .before .draw-bytes .last .0) (c .before .before .before .before .before .draw-bytes .result)
+drawn c =
+    let b = bank-now (run-loop (run-of c)) in
+    let m = run-of c .shortest .result in
+    let few = subst (λ (g : ℕ). m * (64 * g) ≤ length (lent c)) (row-is (run-of c)) (omega (arith, fits (run-of c), c .before .before .before .before .before .before .before .before .before .before .draw-bytes-arg .given)) in
+    drawn-whole 0 64 byteCell (groupsOf (size b)) (size b) m (b .u) (b .r) (b .d) (b .scale) (b .base) (lent c) (c .before .before .before .before .before .draw-bytes .last .0) (c .before .before .before .before .before .draw-bytes .result) few (c .before .before .before .before .before .draw-bytes .ensures)
+
+counted-lanes : (c : tie.After-next-ended Inv-loop2 μ-loop2 Inv-loop μ-loop)
+    → let b = bank-now (run-loop (run-of c)) in
+    Lanes (b .timing) (ranLane (size b) (run-of c .shortest .result) b) b (counted-bank c)
+counted-lanes c =
+    let b = bank-now (run-loop (run-of c)) in
+    ran-lanes (size b) (run-of c .shortest .result) b _ _ (run-loop (run-of c) .loop2 .inv .0) (drawn c .moved) (c .before .before .count-down .ensures)
+
+found : (c : tie.After-next-ended Inv-loop2 μ-loop2 Inv-loop μ-loop) → NextEnded (c .before .before .count-down .result) (size (bank-now (run-loop (run-of c)))) 0 (c .next-ended .result)
+found c =
+    let n = size (bank-now (run-loop (run-of c))) in
+    subst (λ (v : ℕ). NextEnded (c .before .before .count-down .result) n 0 v) (sym (c .next-ended .ensures)) (next-ended n _ 0 (omega arith))
+
+-- The event asks for frames.
+is-frames : (c : tie.After-next-ended Inv-loop2 μ-loop2 Inv-loop μ-loop) → let t = turn-of (run-loop (run-of c)) in event-of t ≡ Event.Frames (turnOf (event-of t) (loop-of t .before .before .before .before .before .before .before .before .before .before .count .result) .frames)
+is-frames c =
+    let t = turn-of (run-loop (run-of c)) in
+    let e = ap (λ (x : Turn). x .frames) (t .turn-of .ensures) in
+    let k = run-of c .before .before .if2 .left in
+    frames-event (event-of t) (loop-of t .before .before .before .before .before .before .before .before .before .before .count .result) (omega (arith, e, k, run-loop (run-of c) .loop2 .inv .4))
+
+-- What is pending after a run are its frames.
+ran : (c : tie.After-next-ended Inv-loop2 μ-loop2 Inv-loop μ-loop)
+    → let t = turn-of (run-loop (run-of c)) in
+    pending (event-of t) (c .next-ended .result) (loop-of t .before .before .before .before .before .before .before .before .before .before .count .result) (c .next-ended .result) (counted-bank c) ≡ frames (run-of c .shortest .result) (bank-now (run-loop (run-of c)))
+ran c =
+    let t = turn-of (run-loop (run-of c)) in
+    let b = bank-now (run-loop (run-of c)) in
+    let v = c .next-ended .result in
+    let k = turnOf (event-of t) (loop-of t .before .before .before .before .before .before .before .before .before .before .count .result) .frames in
+    ap (λ (e : Event). pending e v (loop-of t .before .before .before .before .before .before .before .before .before .before .count .result) v (counted-bank c)) (is-frames c)
+    ∙ ap (λ (n : ℕ). pending (Event.Frames k) v n v (counted-bank c)) (loop-of t .before .before .before .before .before .before .before .before .before .before .count .ensures)
+    ∙ pending-run k b (counted-bank c) (run-of c .shortest .result) v (run-loop (run-of c) .loop2 .inv .0) (run-is (run-of c) .0) (run-is (run-of c) .3) (counted-lanes c) (found c .high) (found c .passed)
+
+-- ---- the needs
+
+read-requires : tie.Need-read-requires Inv-loop2 μ-loop2 Inv-loop μ-loop
 read-requires c κs = search needs
 
-enum-known-event : tie.Need-enum-known-event Inv-loop μ-loop
-enum-known-event c = search needs
+enum-known-opening : tie.Need-enum-known-opening Inv-loop2 μ-loop2 Inv-loop μ-loop
+enum-known-opening c = search needs
 
-enum-told : tie.Need-enum-told Inv-loop μ-loop
+enum-told : tie.Need-enum-told Inv-loop2 μ-loop2 Inv-loop μ-loop
 enum-told c = search needs
 
-same-length-2 : tie.Need-same-length-2 Inv-loop μ-loop
-same-length-2 c = search needs
+returns : tie.Need-returns Inv-loop2 μ-loop2 Inv-loop μ-loop
+returns c =
+    let s = c .before .before .before .before .before in
+    let l = s .args .list .now in
+    let o = s .args .out .now in
+    finished l o o unopened 0 0 (length l) (begun l o unopened refl (s .pre)) (no-record l 0 (length l) _ (sym (c .before .before .read .ensures) ∙ c .enum-told .given .1))
 
-returns-2 : tie.Need-returns-2 Inv-loop μ-loop
+opened-requires : tie.Need-opened-requires Inv-loop2 μ-loop2 Inv-loop μ-loop
+opened-requires c κs = search needs
+
+count-requires : tie.Need-count-requires Inv-loop2 μ-loop2 Inv-loop μ-loop
+count-requires c κs = search needs
+
+groups-requires : tie.Need-groups-requires Inv-loop2 μ-loop2 Inv-loop μ-loop
+groups-requires c κs = search needs
+
+mul-row : tie.Need-mul-row Inv-loop2 μ-loop2 Inv-loop μ-loop
+mul-row c = record { fits = omega (arith, c .groups .ensures) }
+
+sub-records : tie.Need-sub-records Inv-loop2 μ-loop2 Inv-loop μ-loop
+sub-records c =
+    let s = c .before .before .before .before .before .before .before .before .before .before .before .before .before .before .before .before .before in
+    some-bytes _ _ (s .pre)
+
+loop-holds : tie.Need-loop-holds Inv-loop2 μ-loop2 Inv-loop μ-loop
+loop-holds c =
+    let s = c .before .before .before .before .before .before .before .before .before .before .before .before .before .before .before .before .before in
+    let told = sym (c .before .before .before .before .before .before .before .before .before .before .before .before .before .before .read .ensures) ∙ c .before .before .before .before .before .before .before .before .before .before .before .before .opening .given .1 in
+    (opened-first (s .args .list .now) (s .args .out .now) (c .before .before .before .before .before .before .before .before .before .before .opened .result) _ _ (s .pre) told (c .before .before .before .before .before .before .before .before .before .before .opened .ensures), later-place _ _ _ _ told)
+
+sub-records-2 : tie.Need-sub-records-2 Inv-loop2 μ-loop2 Inv-loop μ-loop
+sub-records-2 c = search needs
+
+read-requires-2 : tie.Need-read-requires-2 Inv-loop2 μ-loop2 Inv-loop μ-loop
+read-requires-2 c κs = search needs
+
+enum-known-event : tie.Need-enum-known-event Inv-loop2 μ-loop2 Inv-loop μ-loop
+enum-known-event c = search needs
+
+enum-told-2 : tie.Need-enum-told-2 Inv-loop2 μ-loop2 Inv-loop μ-loop
+enum-told-2 c = search needs
+
+same-length : tie.Need-same-length Inv-loop2 μ-loop2 Inv-loop μ-loop
+same-length c = search needs
+
+returns-2 : tie.Need-returns-2 Inv-loop2 μ-loop2 Inv-loop μ-loop
 returns-2 c =
-    let c₅ = c .before .before .before .before .before in
-    let l = c₅ .loop in
-    let e : l .owed ≡ 0 = omega (arith, c .before .before .before .before .if1 .left) in
-    let P = subst (λ (n : ℕ). Played (list-of c₅) (output-of c₅) (l .out) (l .b) (l .at) (l .to) n (l .records)) e (l .inv .0) in
-    finished _ _ _ _ _ _ _ P (no-record (list-of c₅) (l .at) (l .records) _ (sym (c .before .before .read .ensures) ∙ c .enum-told .given .1))
+    let c₄ = c .before .before .before .before in
+    let l = c₄ .loop in
+    finished _ _ _ _ _ _ _ (l .inv .0) (no-record (list-of c₄) (l .at) (l .records) _ (sym (c .before .before .read2 .ensures) ∙ c .enum-told2 .given .1))
 
-turn-of-requires : tie.Need-turn-of-requires Inv-loop μ-loop
+timing-after-requires : tie.Need-timing-after-requires Inv-loop2 μ-loop2 Inv-loop μ-loop
+timing-after-requires c κs = search needs
+
+turn-of-requires : tie.Need-turn-of-requires Inv-loop2 μ-loop2 Inv-loop μ-loop
 turn-of-requires c κs = search needs
 
-enum-known-voices : tie.Need-enum-known-voices Inv-loop μ-loop
-enum-known-voices c = search needs
+loop2-holds : tie.Need-loop2-holds Inv-loop2 μ-loop2 Inv-loop μ-loop
+loop2-holds c =
+    let S = loop-of c .loop .inv .0 .sized in
+    let t = in-turn c in
+    (record { lanes = S .lanes; u = S .u; r = S .r; d = S .d; scale = S .scale; base = S .base; left = S .left }, t .few, t .source, t .straight, search needs, λ o P. P)
 
-new-requires-3 : tie.Need-new-requires-3 Inv-loop μ-loop
-new-requires-3 c κs = search needs
+mul-lane : tie.Need-mul-lane Inv-loop2 μ-loop2 Inv-loop μ-loop
+mul-lane c = record { fits = omega (arith, from-there (c)) }
 
-loop-less-2 : tie.Need-loop-less-2 Inv-loop μ-loop
-loop-less-2 c = search needs
+array-copy-out-lane : tie.Need-array-copy-out-lane Inv-loop2 μ-loop2 Inv-loop μ-loop
+array-copy-out-lane c = from-there c
 
-loop-again-2 : tie.Need-loop-again-2 Inv-loop μ-loop
-loop-again-2 c = (went (c .before .before .before .before .before) _ (c .before .before .before .voices .given .1) refl _ (ap (λ (x : Answer). x .bank) (c .before .new3 .ensures)), search needs, search needs)
+mul-t38 : tie.Need-mul-t38 Inv-loop2 μ-loop2 Inv-loop μ-loop
+mul-t38 c = record { fits = omega (arith, from-there (c .before)) }
 
-enum-known-params : tie.Need-enum-known-params Inv-loop μ-loop
-enum-known-params c = search needs
+array-read-t44 : tie.Need-array-read-t44 Inv-loop2 μ-loop2 Inv-loop μ-loop
+array-read-t44 c = from-there (c .before)
 
-set-all-params-requires : tie.Need-set-all-params-requires Inv-loop μ-loop
-set-all-params-requires c κs = search needs
+mul-t45 : tie.Need-mul-t45 Inv-loop2 μ-loop2 Inv-loop μ-loop
+mul-t45 c = record { fits = omega (arith, from-there (c .before)) }
 
-loop-less-3 : tie.Need-loop-less-3 Inv-loop μ-loop
-loop-less-3 c = search needs
+array-read-t48 : tie.Need-array-read-t48 Inv-loop2 μ-loop2 Inv-loop μ-loop
+array-read-t48 c = from-there (c .before)
 
-loop-again-3 : tie.Need-loop-again-3 Inv-loop μ-loop
-loop-again-3 c = (went (c .before .before .before .before .before) _ (c .before .before .before .params .given .1) refl _ (ap (λ (x : Answer). x .bank) (c .before .set-all-params .ensures)), search needs, search needs)
+mul-t49 : tie.Need-mul-t49 Inv-loop2 μ-loop2 Inv-loop μ-loop
+mul-t49 c = record { fits = omega (arith, from-there (c .before)) }
 
-enum-known-timing : tie.Need-enum-known-timing Inv-loop μ-loop
-enum-known-timing c = search needs
+array-read-t52 : tie.Need-array-read-t52 Inv-loop2 μ-loop2 Inv-loop μ-loop
+array-read-t52 c = from-there (c .before)
 
-set-timing-requires : tie.Need-set-timing-requires Inv-loop μ-loop
-set-timing-requires c κs = search needs
+mul-t53 : tie.Need-mul-t53 Inv-loop2 μ-loop2 Inv-loop μ-loop
+mul-t53 c = record { fits = omega (arith, from-there (c .before)) }
 
-loop-less-4 : tie.Need-loop-less-4 Inv-loop μ-loop
-loop-less-4 c = search needs
+array-read-t56 : tie.Need-array-read-t56 Inv-loop2 μ-loop2 Inv-loop μ-loop
+array-read-t56 c = from-there (c .before)
 
-loop-again-4 : tie.Need-loop-again-4 Inv-loop μ-loop
-loop-again-4 c = (went (c .before .before .before .before .before) _ (c .before .before .before .timing .given .1) refl _ (ap (λ (x : Answer). x .bank) (c .before .set-timing .ensures)), search needs, search needs)
+mul-t57 : tie.Need-mul-t57 Inv-loop2 μ-loop2 Inv-loop μ-loop
+mul-t57 c = record { fits = omega (arith, from-there (c .before)) }
 
-enum-known-count : tie.Need-enum-known-count Inv-loop μ-loop
-enum-known-count c = search needs
+array-read-t60 : tie.Need-array-read-t60 Inv-loop2 μ-loop2 Inv-loop μ-loop
+array-read-t60 c = from-there (c .before)
 
-loop-less-5 : tie.Need-loop-less-5 Inv-loop μ-loop
-loop-less-5 c = search needs
+mul-t61 : tie.Need-mul-t61 Inv-loop2 μ-loop2 Inv-loop μ-loop
+mul-t61 c = record { fits = omega (arith, from-there (c .before)) }
 
-loop-again-5 : tie.Need-loop-again-5 Inv-loop μ-loop
-loop-again-5 c =
-    let c₃ = c .before .before .before in
-    (asked-for _ _ _ _ _ _ _ (played c₃) (more-left c₃) (event-of c₃) (next-of c₃) (is-record c₃) _ (sym (c₃ .turn-of .ensures) ∙ c .before .count .given .1), search needs, search needs)
+array-read-t64 : tie.Need-array-read-t64 Inv-loop2 μ-loop2 Inv-loop μ-loop
+array-read-t64 c = from-there (c .before)
 
-enum-known-voice : tie.Need-enum-known-voice Inv-loop μ-loop
-enum-known-voice c = search needs
-
-mul-lane : tie.Need-mul-lane Inv-loop μ-loop
-mul-lane c = record { fits = omega (arith, changes (c .before)) }
-
-element-copy-out-lane : tie.Need-element-copy-out-lane Inv-loop μ-loop
-element-copy-out-lane c = omega (arith, changes (c .before))
-
-mul-t52 : tie.Need-mul-t52 Inv-loop μ-loop
-mul-t52 c = record { fits = omega (arith, changes (c .before .before)) }
-
-element-copy-out-t58 : tie.Need-element-copy-out-t58 Inv-loop μ-loop
-element-copy-out-t58 c = omega (arith, changes (c .before .before))
-
-mul-t59 : tie.Need-mul-t59 Inv-loop μ-loop
-mul-t59 c = record { fits = omega (arith, changes (c .before .before .before)) }
-
-element-copy-out-t62 : tie.Need-element-copy-out-t62 Inv-loop μ-loop
-element-copy-out-t62 c = omega (arith, changes (c .before .before .before))
-
-mul-t63 : tie.Need-mul-t63 Inv-loop μ-loop
-mul-t63 c = record { fits = omega (arith, changes (c .before .before .before .before)) }
-
-element-copy-out-t66 : tie.Need-element-copy-out-t66 Inv-loop μ-loop
-element-copy-out-t66 c = omega (arith, changes (c .before .before .before .before))
-
-mul-t67 : tie.Need-mul-t67 Inv-loop μ-loop
-mul-t67 c = record { fits = omega (arith, changes (c .before .before .before .before .before)) }
-
-element-copy-out-t70 : tie.Need-element-copy-out-t70 Inv-loop μ-loop
-element-copy-out-t70 c = omega (arith, changes (c .before .before .before .before .before))
-
-mul-t71 : tie.Need-mul-t71 Inv-loop μ-loop
-mul-t71 c = record { fits = omega (arith, changes (c .before .before .before .before .before .before)) }
-
-element-copy-out-t74 : tie.Need-element-copy-out-t74 Inv-loop μ-loop
-element-copy-out-t74 c = omega (arith, changes (c .before .before .before .before .before .before))
-
-mul-t75 : tie.Need-mul-t75 Inv-loop μ-loop
-mul-t75 c = record { fits = omega (arith, changes (c .before .before .before .before .before .before .before)) }
-
-element-copy-out-t78 : tie.Need-element-copy-out-t78 Inv-loop μ-loop
-element-copy-out-t78 c = omega (arith, changes (c .before .before .before .before .before .before .before))
-
-changed-requires : tie.Need-changed-requires Inv-loop μ-loop
+changed-requires : tie.Need-changed-requires Inv-loop2 μ-loop2 Inv-loop μ-loop
 changed-requires c κs = search needs
 
-mul-next : tie.Need-mul-next Inv-loop μ-loop
-mul-next c = record { fits = omega (arith, changes (c .before .before .before .before .before .before .before .before .before .before .before .before)) }
+mul-lanes : tie.Need-mul-lanes Inv-loop2 μ-loop2 Inv-loop μ-loop
+mul-lanes c = record { fits = omega (arith, there (c .before .before .before .before)) }
 
-element-set-from-next : tie.Need-element-set-from-next Inv-loop μ-loop
-element-set-from-next c = omega (arith, changes (c .before .before .before .before .before .before .before .before .before .before .before .before))
+array-set-from-lanes : tie.Need-array-set-from-lanes Inv-loop2 μ-loop2 Inv-loop μ-loop
+array-set-from-lanes c = there (c .before .before .before .before)
 
-mul-b : tie.Need-mul-b Inv-loop μ-loop
-mul-b c = record { fits = omega (arith, changes (c .before .before .before .before .before .before .before .before .before .before .before .before)) }
+mul-u : tie.Need-mul-u Inv-loop2 μ-loop2 Inv-loop μ-loop
+mul-u c = record { fits = omega (arith, there (c .before .before .before .before)) }
 
-element-write-b : tie.Need-element-write-b Inv-loop μ-loop
-element-write-b c = omega (arith, changes (c .before .before .before .before .before .before .before .before .before .before .before .before))
+array-write-u : tie.Need-array-write-u Inv-loop2 μ-loop2 Inv-loop μ-loop
+array-write-u c = there (c .before .before .before .before)
 
-mul-b-2 : tie.Need-mul-b-2 Inv-loop μ-loop
-mul-b-2 c = record { fits = omega (arith, changes (c .before .before .before .before .before .before .before .before .before .before .before .before)) }
+mul-r : tie.Need-mul-r Inv-loop2 μ-loop2 Inv-loop μ-loop
+mul-r c = record { fits = omega (arith, there (c .before .before .before .before)) }
 
-element-write-b-2 : tie.Need-element-write-b-2 Inv-loop μ-loop
-element-write-b-2 c = omega (arith, changes (c .before .before .before .before .before .before .before .before .before .before .before .before))
+array-write-r : tie.Need-array-write-r Inv-loop2 μ-loop2 Inv-loop μ-loop
+array-write-r c = there (c .before .before .before .before)
 
-mul-b-3 : tie.Need-mul-b-3 Inv-loop μ-loop
-mul-b-3 c = record { fits = omega (arith, changes (c .before .before .before .before .before .before .before .before .before .before .before .before)) }
+mul-d : tie.Need-mul-d Inv-loop2 μ-loop2 Inv-loop μ-loop
+mul-d c = record { fits = omega (arith, there (c .before .before .before .before)) }
 
-element-write-b-3 : tie.Need-element-write-b-3 Inv-loop μ-loop
-element-write-b-3 c = omega (arith, changes (c .before .before .before .before .before .before .before .before .before .before .before .before))
+array-write-d : tie.Need-array-write-d Inv-loop2 μ-loop2 Inv-loop μ-loop
+array-write-d c = there (c .before .before .before .before)
 
-mul-b-4 : tie.Need-mul-b-4 Inv-loop μ-loop
-mul-b-4 c = record { fits = omega (arith, changes (c .before .before .before .before .before .before .before .before .before .before .before .before)) }
+mul-scale : tie.Need-mul-scale Inv-loop2 μ-loop2 Inv-loop μ-loop
+mul-scale c = record { fits = omega (arith, there (c .before .before .before .before)) }
 
-element-write-b-4 : tie.Need-element-write-b-4 Inv-loop μ-loop
-element-write-b-4 c = omega (arith, changes (c .before .before .before .before .before .before .before .before .before .before .before .before))
+array-write-scale : tie.Need-array-write-scale Inv-loop2 μ-loop2 Inv-loop μ-loop
+array-write-scale c = there (c .before .before .before .before)
 
-mul-b-5 : tie.Need-mul-b-5 Inv-loop μ-loop
-mul-b-5 c = record { fits = omega (arith, changes (c .before .before .before .before .before .before .before .before .before .before .before .before)) }
+mul-base : tie.Need-mul-base Inv-loop2 μ-loop2 Inv-loop μ-loop
+mul-base c = record { fits = omega (arith, there (c .before .before .before .before)) }
 
-element-write-b-5 : tie.Need-element-write-b-5 Inv-loop μ-loop
-element-write-b-5 c = omega (arith, changes (c .before .before .before .before .before .before .before .before .before .before .before .before))
+array-write-base : tie.Need-array-write-base Inv-loop2 μ-loop2 Inv-loop μ-loop
+array-write-base c = there (c .before .before .before .before)
 
-mul-b-6 : tie.Need-mul-b-6 Inv-loop μ-loop
-mul-b-6 c = record { fits = omega (arith, changes (c .before .before .before .before .before .before .before .before .before .before .before .before)) }
+mul-left : tie.Need-mul-left Inv-loop2 μ-loop2 Inv-loop μ-loop
+mul-left c = record { fits = omega (arith, there (c .before .before .before .before)) }
 
-element-write-b-6 : tie.Need-element-write-b-6 Inv-loop μ-loop
-element-write-b-6 c = omega (arith, changes (c .before .before .before .before .before .before .before .before .before .before .before .before))
+array-write-left : tie.Need-array-write-left Inv-loop2 μ-loop2 Inv-loop μ-loop
+array-write-left c = there (c .before .before .before .before)
 
-loop-less-6 : tie.Need-loop-less-6 Inv-loop μ-loop
-loop-less-6 c =
-    let c₁₄ = c .before .before .before .before .before .before .before .before .before .before .before .before .before .before in
-    let l = loop-of c₁₄ .loop in
-    let h : (l .records - 1) * 2 ^ 64 + l .owed < l .records * 2 ^ 64 + l .owed = omega (arith, more-left c₁₄) in
-    h
+add-next : tie.Need-add-next Inv-loop2 μ-loop2 Inv-loop μ-loop
+add-next c = record { fits = omega (arith, there (c .before .before .before .before .before)) }
 
-loop-again-6 : tie.Need-loop-again-6 Inv-loop μ-loop
+next-requires : tie.Need-next-requires Inv-loop2 μ-loop2 Inv-loop μ-loop
+next-requires c κs = search needs
+
+loop2-less : tie.Need-loop2-less Inv-loop2 μ-loop2 Inv-loop μ-loop
+loop2-less c =
+    let c₆ = c .before .before .before .before .before .before in
+    omega (arith, c₆ .if1 .taken, step c .0)
+
+loop2-again : tie.Need-loop2-again Inv-loop2 μ-loop2 Inv-loop μ-loop
 unfolding blank
-loop-again-6 c =
-    let c₁₂ = c .before .before .before .before .before .before .before .before .before .before .before .before in
-    let c₁₄ = c₁₂ .before .before in
-    let l = loop-of c₁₄ .loop in
-    let v = c₁₂ .voice .given .0 .0 in
-    let q = c .before .before .changed in
-    let b-is = put-lane (l .b) v (q .result) (l .inv .0 .sized) (changes c₁₂ .0) ∙ ap (λ (x : Voice). put v x (l .b)) (q .ensures) in
-    (went c₁₄ _ (c₁₂ .voice .given .1) refl _ b-is, search needs, search needs)
+loop2-again c =
+    let c₆ = c .before .before .before .before .before .before in
+    let c₇ = c₆ .before in
+    let l = c₇ .loop2 in
+    let t = turn-of c₇ in
+    let b = bank-now c₇ in
+    let x = c .before .before .before .before .changed in
+    let s = step c in
+    let e = pending-step (event-of t) (l .v) (l .last) (l .from) b (l .inv .0) (x .result) (c .next .result) (c₆ .if1 .taken) (l .inv .1) (l .inv .3) (s .0) (x .ensures) (s .2) in (
+      put-sized b (l .v) (x .result) (l .inv .0),
+      l .inv .1,
+      λ h. omega (arith, h, l .inv .1),
+      inl refl,
+      l .inv .4,
+      λ o P.
+          subst (λ (b : EnvelopeBank). Played (list-of (loop-of t)) o (l .out) b (next-of t) (l .to) (l .rest) (loop-of t .loop .records - 1)) e (l .inv .5 o P),
+    )
+
+loop-less : tie.Need-loop-less Inv-loop2 μ-loop2 Inv-loop μ-loop
+loop-less c = omega (arith, more-left (turn-of (c .before .before)))
+
+loop-again : tie.Need-loop-again Inv-loop2 μ-loop2 Inv-loop μ-loop
+loop-again c =
+    let c₂ = c .before .before in
+    let l = c₂ .loop2 in
+    let t = turn-of c₂ in
+    let none : l .rest ≡ 0 = c .if2 .taken in
+    let e = pending-none (event-of t) (l .v) (l .last) (l .from) (bank-now c₂) (l .inv .0) (omega (arith, c .before .if1 .left)) in (
+      subst (λ (n : ℕ). Played (list-of (loop-of t)) (output-of (loop-of t)) (l .out) (bank-now c₂) (next-of t) (l .to) n (loop-of t .loop .records - 1)) none
+          (subst (λ (b : EnvelopeBank). Played (list-of (loop-of t)) (output-of (loop-of t)) (l .out) b (next-of t) (l .to) (l .rest) (loop-of t .loop .records - 1)) e (played c₂)),
+      later-place (list-of (loop-of t)) _ (event-of t) (next-of t) (is-record t),
+    )
+
+cast-shortest : tie.Need-cast-shortest Inv-loop2 μ-loop2 Inv-loop μ-loop
+cast-shortest c = search needs
+
+shortest-requires : tie.Need-shortest-requires Inv-loop2 μ-loop2 Inv-loop μ-loop
+shortest-requires c κs = search needs
+
+sub-draw-bytes : tie.Need-sub-draw-bytes Inv-loop2 μ-loop2 Inv-loop μ-loop
+sub-draw-bytes c = omega (arith, fits c)
+
+part-draw-bytes-start : tie.Need-part-draw-bytes-start Inv-loop2 μ-loop2 Inv-loop μ-loop
+part-draw-bytes-start c = sub-draw-bytes c
+
+part-draw-bytes-end : tie.Need-part-draw-bytes-end Inv-loop2 μ-loop2 Inv-loop μ-loop
+part-draw-bytes-end c = search needs
+
+draw-bytes-requires : tie.Need-draw-bytes-requires Inv-loop2 μ-loop2 Inv-loop μ-loop
+draw-bytes-requires c κs = search needs
+
+count-down-requires : tie.Need-count-down-requires Inv-loop2 μ-loop2 Inv-loop μ-loop
+count-down-requires c κs = search needs
+
+cast-to : tie.Need-cast-to Inv-loop2 μ-loop2 Inv-loop μ-loop
+cast-to c = search needs
+
+mul-to : tie.Need-mul-to Inv-loop2 μ-loop2 Inv-loop μ-loop
+mul-to c =
+    let c₉ = c .before .before .before .before .before .before .before .before .before in
+    record { fits = omega (arith, fits c₉, bounded c₉) }
+
+add-to : tie.Need-add-to Inv-loop2 μ-loop2 Inv-loop μ-loop
+add-to c =
+    let c₉ = c .before .before .before .before .before .before .before .before .before in
+    record { fits = omega (arith, fits c₉, bounded c₉) }
+
+sub-rest : tie.Need-sub-rest Inv-loop2 μ-loop2 Inv-loop μ-loop
+sub-rest c = omega (arith, run-is (c .before .before .before .before .before .before .before .before .before) .1)
+
+next-ended-requires : tie.Need-next-ended-requires Inv-loop2 μ-loop2 Inv-loop μ-loop
+next-ended-requires c κs = search needs
+
+loop2-less-2 : tie.Need-loop2-less-2 Inv-loop2 μ-loop2 Inv-loop μ-loop
+loop2-less-2 c =
+    let n = loop-of (turn-of (run-loop (run-of c))) .before .before .before .before .before .before .before .before .before .before .count .ensures in
+    omega (arith, run-is (run-of c) .0, run-is (run-of c) .1, n)
+
+loop2-again-2 : tie.Need-loop2-again-2 Inv-loop2 μ-loop2 Inv-loop μ-loop
+loop2-again-2 c =
+    let c₁₀ = run-of c in
+    let c₁₄ = run-loop c₁₀ in
+    let l = c₁₄ .loop2 in
+    let t = turn-of c₁₄ in
+    let b = bank-now c₁₄ in
+    let m = c₁₀ .shortest .result in
+    let g = groupsOf (size b) in
+    let n = loop-of t .before .before .before .before .before .before .before .before .before .before .count .ensures in
+    let w = c .before .before .before .before .before .draw-bytes in
+    let on : l .to + 4 * (m * (16 * g)) ≡ l .to + m * (64 * loop-of t .before .before .before .before .before .before .before .before .before .groups .result) =
+    subst (λ (k : ℕ). l .to + 4 * (m * (16 * g)) ≡ l .to + m * (64 * k)) (sym (row-is c₁₀)) (omega arith) in (
+      counted-lanes c .sized,
+      omega (arith, n),
+      λ h. omega (arith, n, h),
+      inl refl,
+      omega (arith, l .inv .4),
+      λ o P.
+          let Q = l .inv .5 o P in
+          subst (λ (k : ℕ). Played (list-of (loop-of t)) o (putMid (l .to) (length (l .out) - l .to) (l .out) (w .last .0)) (pending (event-of t) (c .next-ended .result) (loop-of t .before .before .before .before .before .before .before .before .before .before .count .result) (c .next-ended .result) (counted-bank c)) (next-of t) k (l .rest - m) (loop-of t .loop .records - 1)) on
+          (drew _ _ _ b _ _ _ _ (settled c₁₀ o Q) m (run-is c₁₀ .1) _ _ (ran c) (run-put b (l .inv .0) m (run-is c₁₀ .3) (l .out) (w .last .0) (l .to) (w .result) (room c₁₀ o Q) (drawn c))),
+    )
+
+same-length-2 : tie.Need-same-length-2 Inv-loop2 μ-loop2 Inv-loop μ-loop
+same-length-2 c = search needs
+
+returns-3 : tie.Need-returns-3 Inv-loop2 μ-loop2 Inv-loop μ-loop
+returns-3 c =
+    let l = c .before .loop in
+    finished _ _ _ _ _ _ _ (l .inv .0) (no-records _ (l .at) (l .records) (omega (arith, c .loop-test .left)))
 
 pub play-spec : {M : Type 1} → statement M
 play-spec =
     tie.close
     (tie.spec
+    Inv-loop2
+    μ-loop2
     Inv-loop
     μ-loop
-    new-requires
-    new-requires-2
+    read-requires
+    enum-known-opening
+    enum-told
+    returns
+    opened-requires
+    count-requires
+    groups-requires
+    mul-row
+    sub-records
     loop-holds
-    stride-of-requires
-    div-least
-    least-requires
-    mul-count
-    sub-process
-    part-levels-start
-    part-levels-end
-    process-requires
-    slice-aggregate-put-levels
-    put-levels-requires
-    mul-to
-    add-to
-    sub-owed
+    sub-records-2
+    read-requires-2
+    enum-known-event
+    enum-told-2
+    same-length
+    returns-2
+    timing-after-requires
+    turn-of-requires
+    loop2-holds
+    mul-lane
+    array-copy-out-lane
+    mul-t38
+    array-read-t44
+    mul-t45
+    array-read-t48
+    mul-t49
+    array-read-t52
+    mul-t53
+    array-read-t56
+    mul-t57
+    array-read-t60
+    mul-t61
+    array-read-t64
+    changed-requires
+    mul-lanes
+    array-set-from-lanes
+    mul-u
+    array-write-u
+    mul-r
+    array-write-r
+    mul-d
+    array-write-d
+    mul-scale
+    array-write-scale
+    mul-base
+    array-write-base
+    mul-left
+    array-write-left
+    add-next
+    next-requires
+    loop2-less
+    loop2-again
     loop-less
     loop-again
-    same-length
-    returns
-    sub-records
-    read-requires
-    enum-known-event
-    enum-told
+    cast-shortest
+    shortest-requires
+    sub-draw-bytes
+    part-draw-bytes-start
+    part-draw-bytes-end
+    draw-bytes-requires
+    count-down-requires
+    cast-to
+    mul-to
+    add-to
+    sub-rest
+    next-ended-requires
+    loop2-less-2
+    loop2-again-2
     same-length-2
-    returns-2
-    turn-of-requires
-    enum-known-voices
-    new-requires-3
-    loop-less-2
-    loop-again-2
-    enum-known-params
-    set-all-params-requires
-    loop-less-3
-    loop-again-3
-    enum-known-timing
-    set-timing-requires
-    loop-less-4
-    loop-again-4
-    enum-known-count
-    loop-less-5
-    loop-again-5
-    enum-known-voice
-    mul-lane
-    element-copy-out-lane
-    mul-t52
-    element-copy-out-t58
-    mul-t59
-    element-copy-out-t62
-    mul-t63
-    element-copy-out-t66
-    mul-t67
-    element-copy-out-t70
-    mul-t71
-    element-copy-out-t74
-    mul-t75
-    element-copy-out-t78
-    changed-requires
-    mul-next
-    element-set-from-next
-    mul-b
-    element-write-b
-    mul-b-2
-    element-write-b-2
-    mul-b-3
-    element-write-b-3
-    mul-b-4
-    element-write-b-4
-    mul-b-5
-    element-write-b-5
-    mul-b-6
-    element-write-b-6
-    loop-less-6
-    loop-again-6)
+    returns-3)

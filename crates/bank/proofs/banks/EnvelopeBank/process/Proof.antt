@@ -1,46 +1,52 @@
-use mathlib.Core.Path.{_≡_, refl, ap, _∙_, subst}
-use Prim.Native.Nat.{ℕ, _+_, _-_, _*_, _/_, _%_, _≤_, _<_}
+use mathlib.Core.Path.{_≡_, refl, sym, ap, _∙_, subst}
+use mathlib.Core.List.{List}
+use Prim.Native.Nat.{ℕ, _+_, _-_, _*_, _/_, _%_, _≤_, _<_, min}
 use native.Mathlib.Omega.{arith}
 use native.Mathlib.Nat.{div-mul-le-self, div-le-self, le-trans, le-add-right}
 use borrow.Author.Needs.{needs}
-use borrow.Rule.Slice.PartMut.{same-len-mid}
-use lib.ListN.{length, getD}
+use borrow.Rule.Slice.PartMut.{midOf, same-len-mid}
+use lib.Ieee.{Float, nan}
+use lib.ListN.{length, getD, set}
+use Rattle.curve.specs.Segments.{Inside}
+use Rattle.rows.specs.Rows.{floatCell, laneAt, Drawn}
+use Rattle.rows.specs.Runs as Runs
+use Rattle.rows.specs.Strides.{groupsOf, strideOf}
+use Rattle.rows.proofs.RowsDrawn.{run-fits, drawn-whole}
+use Rattle.rows.proofs.WithinRuns.{NextEnded, shortest-few, shortest-some, shortest-inside, next-ended}
 use Rattle.bank.specs.declared.banks.EnvelopeBank.{EnvelopeBank}
-use Rattle.bank.specs.Calls.{strideOf}
 use Rattle.bank.specs.Banks.{blank, size}
 use Rattle.bank.proofs.Lanes.{Lanes, bankOf, putLane}
 use Rattle.bank.proofs.Owned.{sized}
-use Rattle.bank.proofs.Rows.{run-fits}
 use Rattle.bank.proofs.Runs.{ranLane, ran-lanes, settledLane, settle-none, settle-to, settle-put}
 use Rattle.bank.proofs.Whole.{Ran, ran-none, ran-more, refused-answer, refused-levels, done-answer, done-levels}
 use Rattle.bank.proofs.banks.EnvelopeBank.process.Statement.{statement}
 use Rattle.bank.proofs.banks.EnvelopeBank.process.Tie as tie
 
 abbrev Inv-loop2 : tie.InvT-loop2
-Inv-loop2 self out voices groups stride frames timing lanes₀ u₀ r₀ d₀ scale₀ base₀ left₀ done run from v₀ lanes u r d scale base left v =
+Inv-loop2 self out voices stride frames timing lanes₀ u₀ r₀ d₀ scale₀ base₀ left₀ done run from v₀ lanes u r d scale base left v =
     let b₁ = bankOf (self .voices) timing lanes₀ u₀ r₀ d₀ scale₀ base₀ left₀ in
     (v ≤ voices)
     × (v < voices → getD left v 0 ≡ 0)
     × Lanes timing (settledLane timing v b₁) b₁ (bankOf (self .voices) timing lanes u r d scale base left)
 
 abbrev μ-loop2 : tie.MeasureT-loop2
-μ-loop2 self out voices groups stride frames timing lanes₀ u₀ r₀ d₀ scale₀ base₀ left₀ done run from v₀ lanes u r d scale base left v = voices - v
+μ-loop2 self out voices stride frames timing lanes₀ u₀ r₀ d₀ scale₀ base₀ left₀ done run from v₀ lanes u r d scale base left v = voices - v
 
 abbrev Inv-loop : tie.InvT-loop
-Inv-loop self out₀ voices groups stride frames timing lanes₀ u₀ r₀ d₀ scale₀ base₀ left₀ done₀ out lanes u r d scale base left done =
+Inv-loop self out₀ voices stride frames timing lanes₀ u₀ r₀ d₀ scale₀ base₀ left₀ done₀ out lanes u r d scale base left done =
     (done ≤ frames)
     × (length out ≡ length out₀)
     × (frames * stride ≤ length out₀)
     × (frames ≤ length out₀)
-    × Ran voices stride self done (bankOf (self .voices) timing lanes u r d scale base left) out
+    × Ran (size self) stride self done (bankOf (self .voices) timing lanes u r d scale base left) out
 
 abbrev μ-loop : tie.MeasureT-loop
-μ-loop self out₀ voices groups stride frames timing lanes₀ u₀ r₀ d₀ scale₀ base₀ left₀ done₀ out lanes u r d scale base left done = frames - done
+μ-loop self out₀ voices stride frames timing lanes₀ u₀ r₀ d₀ scale₀ base₀ left₀ done₀ out lanes u r d scale base left done = frames - done
 
 -- ---- places: from what a proof has at hand back to the loops and to the groups of lanes
 
 abbrev run-of : tie.After-next-ended Inv-loop2 μ-loop2 Inv-loop μ-loop → tie.After-shortest Inv-loop2 μ-loop2 Inv-loop μ-loop
-run-of c = c .before .before .before .before .before .before .before .before .before .before .before .before .before
+run-of c = c .before .before .before .before .before .before .before .before .before .before .before
 
 abbrev loop-of : tie.After-shortest Inv-loop2 μ-loop2 Inv-loop μ-loop → tie.At-loop Inv-loop2 μ-loop2 Inv-loop μ-loop
 loop-of c = c .before .before .before
@@ -52,20 +58,37 @@ abbrev bank-of : tie.After-groups Inv-loop2 μ-loop2 Inv-loop μ-loop → Envelo
 bank-of c = c .before .before .before .args .self
 
 -- The voices, and the groups that hold them.
-few : (c : tie.After-groups Inv-loop2 μ-loop2 Inv-loop μ-loop) → c .before .count .result ≤ 64
-few c = omega (arith, c .before .count .ensures)
+few : (b : EnvelopeBank) → size b ≤ 64
+few b = omega arith
 
-grouped : (c : tie.After-groups Inv-loop2 μ-loop2 Inv-loop μ-loop)
-    → (1 ≤ c .groups .result) × (c .groups .result ≤ 4) × (c .before .count .result ≤ 16 * c .groups .result)
+grouped : (c : tie.After-groups Inv-loop2 μ-loop2 Inv-loop μ-loop) → (1 ≤ c .groups .result) × (c .groups .result ≤ 4)
 grouped c =
-    let n = c .before .count .ensures in
     let e = c .groups .ensures in
-    (omega arith, omega arith, omega arith)
+    (omega arith, omega arith)
 
 stride-is : (c : tie.After-groups Inv-loop2 μ-loop2 Inv-loop μ-loop) → 16 * c .groups .result ≡ strideOf (size (bank-of c))
 stride-is c = ap (λ (n : ℕ). 16 * n) (c .groups .ensures)
 
--- The run's rows are in the output.
+-- A run: how long it is, and that its rows are in the output.
+run-is : (c : tie.After-shortest Inv-loop2 μ-loop2 Inv-loop μ-loop)
+    → let l = loop-of c .loop in
+    let n = size (bank-of (groups-of (loop-of c))) in
+    let m = c .shortest .result in
+    (1 ≤ m) × (m ≤ length (groups-of (loop-of c) .before .before .before .args .out .now) / (16 * groups-of (loop-of c) .groups .result) - l .done)
+    × ((v : ℕ) → v < n → Inside m (getD (l .left) v 0))
+run-is c =
+    let l = loop-of c .loop in
+    let g = groups-of (loop-of c) in
+    let n = size (bank-of g) in
+    let e = c .shortest .ensures .0 in
+    let f = length (g .before .before .before .args .out .now) / (16 * g .groups .result) - l .done in
+    let k = c .before .before .loop-test .taken in
+    let most = min f Runs.most in (
+      omega (arith, e, shortest-some n (l .left) most (omega (arith, k))),
+      omega (arith, e, shortest-few n (l .left) most),
+      λ v h. (c .shortest .ensures .1 v h, λ d. omega (arith, e, shortest-inside n (l .left) most v h)),
+    )
+
 room : (c : tie.After-shortest Inv-loop2 μ-loop2 Inv-loop μ-loop)
     → let l = loop-of c .loop in
     let g = groups-of (loop-of c) in
@@ -77,7 +100,7 @@ room c =
     let g = groups-of (loop-of c) in
     let s = 16 * g .groups .result in
     let f = length (g .before .before .before .args .out .now) / s in
-    let h : l .done + c .shortest .result ≤ f = omega (arith, c .shortest .ensures .few, c .before .before .loop-test .taken) in
+    let h : l .done + c .shortest .result ≤ f = omega (arith, run-is c .1, c .before .before .loop-test .taken) in
     (h, omega arith, omega (arith, run-fits (l .done) (c .shortest .result) f s h))
 
 -- The bank after a run's rows, before anything follows a segment that ended.
@@ -90,19 +113,60 @@ loop-bank c =
 abbrev counted-bank : tie.After-next-ended Inv-loop2 μ-loop2 Inv-loop μ-loop → EnvelopeBank
 counted-bank c =
     let b = loop-bank (loop-of (run-of c)) in
-    bankOf (b .voices) (b .timing) (b .lanes) (c .before .before .before .before .before .before .draw-rows .last .1 .1 .1 .1 .0) (b .r) (b .d) (b .scale) (b .base) (c .before .before .count-down .last .0)
+    bankOf (b .voices) (b .timing) (b .lanes) (c .before .before .before .before .before .draw .result) (b .r) (b .d) (b .scale) (b .base) (c .before .before .count-down .result)
+
+-- The part of the output that a run's rows were drawn in.
+abbrev lent : tie.After-next-ended Inv-loop2 μ-loop2 Inv-loop μ-loop → List Float
+lent c =
+    let l = loop-of (run-of c) .loop in
+    let from = l .done * (16 * groups-of (loop-of (run-of c)) .groups .result) in
+    midOf from (length (l .out) - from) (l .out)
+
+drew : (c : tie.After-next-ended Inv-loop2 μ-loop2 Inv-loop μ-loop)
+    → let b = loop-bank (loop-of (run-of c)) in
+    Drawn nan 16 floatCell (groupsOf (size b)) (size b) (run-of c .shortest .result) (b .u) (b .r) (b .d) (b .scale) (b .base) (lent c) (c .before .before .before .before .before .draw .last .0) (c .before .before .before .before .before .draw .result)
+drew c =
+    let b = loop-bank (loop-of (run-of c)) in
+    let m = run-of c .shortest .result in
+    let fits = subst (λ (s : ℕ). m * s ≤ length (lent c)) (stride-is (groups-of (loop-of (run-of c)))) (omega (arith, room (run-of c), c .before .before .before .before .before .before .before .before .before .before .draw-arg .given)) in
+    drawn-whole nan 16 floatCell (groupsOf (size b)) (size b) m (b .u) (b .r) (b .d) (b .scale) (b .base) (lent c) (c .before .before .before .before .before .draw .last .0) (c .before .before .before .before .before .draw .result) fits (c .before .before .before .before .before .draw .ensures)
 
 counted-lanes : (c : tie.After-next-ended Inv-loop2 μ-loop2 Inv-loop μ-loop)
     → let b = loop-bank (loop-of (run-of c)) in
-    Lanes (b .timing) (ranLane (groups-of (loop-of (run-of c)) .before .count .result) (run-of c .shortest .result) b) b (counted-bank c)
+    Lanes (b .timing) (ranLane (size b) (run-of c .shortest .result) b) b (counted-bank c)
 counted-lanes c =
-    let c₆ = c .before .before .before .before .before .before in
     let l = loop-of (run-of c) in
-    ran-lanes (groups-of l .before .count .result) (run-of c .shortest .result) (loop-bank l) _ _ (l .loop .inv .4 .lanes .sized)
-    (c₆ .draw-rows .ensures .moved) (c .before .before .count-down .ensures)
+    ran-lanes (size (loop-bank l)) (run-of c .shortest .result) (loop-bank l) _ _ (l .loop .inv .4 .lanes .sized) (drew c .moved) (c .before .before .count-down .ensures)
+
+-- The next voice whose segment has ended.
+found : (c : tie.After-next-ended Inv-loop2 μ-loop2 Inv-loop μ-loop)
+    → NextEnded (c .before .before .count-down .result) (size (loop-bank (loop-of (run-of c)))) 0 (c .next-ended .result)
+found c =
+    subst (λ (v : ℕ). NextEnded (c .before .before .count-down .result) (size (loop-bank (loop-of (run-of c)))) 0 v) (sym (c .next-ended .ensures))
+    (next-ended _ _ 0 (omega arith))
+
+found-next : (c : tie.After-next-ended2 Inv-loop2 μ-loop2 Inv-loop μ-loop)
+    → let l = c .before .before .before .before .before .before .before .loop2 in
+    NextEnded (set (l .left) (l .v) (c .before .before .before .before .advance .result .seg .left)) (size (bank-of (groups-of (loop-of (run-of (c .before .before .before .before .before .before .before .before)))))) (l .v + 1) (c .next-ended2 .result)
+found-next c =
+    let l = c .before .before .before .before .before .before .before .loop2 in
+    let g = groups-of (loop-of (run-of (c .before .before .before .before .before .before .before .before))) in
+    let left = set (l .left) (l .v) (c .before .before .before .before .advance .result .seg .left) in
+    subst (λ (v : ℕ). NextEnded left (size (bank-of g)) (l .v + 1) v) (sym (c .next-ended2 .ensures))
+    (next-ended (size (bank-of g)) left (l .v + 1) (omega (arith, g .before .count .ensures, c .before .before .before .before .before .before .loop2-test .taken)))
+
+-- The rows that a run drew.
+rows-drawn : (c : tie.After-next-ended Inv-loop2 μ-loop2 Inv-loop μ-loop)
+    → let b = loop-bank (loop-of (run-of c)) in
+    let s = 16 * groups-of (loop-of (run-of c)) .groups .result in
+    (k i : ℕ) → k < run-of c .shortest .result → i < s → getD (c .before .before .before .before .before .draw .last .0) (k * s + i) nan ≡ laneAt (size b) k (b .u) (b .r) (b .d) (b .scale) (b .base) i
+rows-drawn c =
+    let b = loop-bank (loop-of (run-of c)) in
+    subst (λ (s : ℕ). (k i : ℕ) → k < run-of c .shortest .result → i < s → getD (c .before .before .before .before .before .draw .last .0) (k * s + i) nan ≡ laneAt (size b) k (b .u) (b .r) (b .d) (b .scale) (b .base) i)
+    (sym (stride-is (groups-of (loop-of (run-of c))))) (drew c .levels)
 
 small : (c : tie.In-loop2 Inv-loop2 μ-loop2 Inv-loop μ-loop) → c .before .loop2 .v < 64
-small c = omega (arith, few (groups-of (loop-of (run-of (c .before .before)))), c .loop2-test .taken)
+small c = omega (arith, groups-of (loop-of (run-of (c .before .before))) .before .count .ensures, c .loop2-test .taken)
 
 -- ---- the needs
 
@@ -141,61 +205,49 @@ loop-holds c =
       search needs,
       div-mul-le-self _ s,
       div-le-self _ s,
-      ran-none (c₁₀ .count .result) s (a .self) (a .out .now) (sized (a .self) _ (c₁₂ .good .0)),
+      ran-none (size (a .self)) s (a .self) (a .out .now) (sized (a .self) _ (c₁₂ .good .0)),
     )
 
 sub-shortest : tie.Need-sub-shortest Inv-loop2 μ-loop2 Inv-loop μ-loop
 sub-shortest c = search needs
 
 shortest-requires : tie.Need-shortest-requires Inv-loop2 μ-loop2 Inv-loop μ-loop
-shortest-requires c κs =
-    let c₁₂ = c .before .before .before .before .before .before .before .before .before .before .before .before in
-    (few c₁₂, omega (arith, c .before .loop-test .taken))
+shortest-requires c κs = search needs
 
 mul-from : tie.Need-mul-from Inv-loop2 μ-loop2 Inv-loop μ-loop
 mul-from c = record { fits = omega (arith, room c) }
 
-mul-draw-rows : tie.Need-mul-draw-rows Inv-loop2 μ-loop2 Inv-loop μ-loop
-mul-draw-rows c = record { fits = omega (arith, room c) }
+mul-draw : tie.Need-mul-draw Inv-loop2 μ-loop2 Inv-loop μ-loop
+mul-draw c = record { fits = omega (arith, room c) }
 
-sub-draw-rows : tie.Need-sub-draw-rows Inv-loop2 μ-loop2 Inv-loop μ-loop
-sub-draw-rows c = omega (arith, room c)
+sub-draw : tie.Need-sub-draw Inv-loop2 μ-loop2 Inv-loop μ-loop
+sub-draw c = omega (arith, room c)
 
-part-draw-rows-start : tie.Need-part-draw-rows-start Inv-loop2 μ-loop2 Inv-loop μ-loop
-part-draw-rows-start c = sub-draw-rows c
+part-draw-start : tie.Need-part-draw-start Inv-loop2 μ-loop2 Inv-loop μ-loop
+part-draw-start c = sub-draw c
 
-part-draw-rows-end : tie.Need-part-draw-rows-end Inv-loop2 μ-loop2 Inv-loop μ-loop
-part-draw-rows-end c = search needs
+part-draw-end : tie.Need-part-draw-end Inv-loop2 μ-loop2 Inv-loop μ-loop
+part-draw-end c = search needs
 
-draw-rows-requires : tie.Need-draw-rows-requires Inv-loop2 μ-loop2 Inv-loop μ-loop
-draw-rows-requires c κs =
-    let c₅ = c .before .before .before .before .before in
-    let c₆ = c₅ .before in
-    let c₉ = c₆ .before .before .before in
-    let c₁₉ = groups-of c₉ in
-    let g = grouped c₁₉ in
-    (g .1, g .2, omega (arith, room c₆, c₅ .draw-rows-arg .given), c₉ .loop .inv .4 .lanes .sized .u)
+draw-requires : tie.Need-draw-requires Inv-loop2 μ-loop2 Inv-loop μ-loop
+draw-requires c κs = search needs
 
 count-down-requires : tie.Need-count-down-requires Inv-loop2 μ-loop2 Inv-loop μ-loop
-count-down-requires c κs =
-    let c₁₃ = c .before .before .before .before .before .before .before .before .before .before .before .before .before in
-    let c₂₃ = groups-of c₁₃ in
-    (few c₂₃, c₁₃ .loop .inv .4 .lanes .sized .left)
+count-down-requires c κs = search needs
 
 next-ended-requires : tie.Need-next-ended-requires Inv-loop2 μ-loop2 Inv-loop μ-loop
-next-ended-requires c κs =
-    let c₂₅ = c .before .before .before .before .before .before .before .before .before .before .before .before .before .before .before .before .before .before .before .before .before .before .before .before .before in
-    (few c₂₅, search needs)
+next-ended-requires c κs = search needs
 
 loop2-holds : tie.Need-loop2-holds Inv-loop2 μ-loop2 Inv-loop μ-loop
 loop2-holds c =
-    let c₂₆ = groups-of (loop-of (run-of c)) in
+    let g = groups-of (loop-of (run-of c)) in
+    let n = g .before .count .ensures in
     let b₁ = counted-bank c in
     let S = counted-lanes c .sized in
-    let e = c .next-ended .ensures in (
-      e .high,
-      e .ended,
-      settle-to _ b₁ b₁ 0 (settle-none _ b₁ S refl) (c .next-ended .result) (search needs) (le-trans (e .high) (few c₂₆)) (e .passed),
+    let e = found c in (
+      omega (arith, n, e .high),
+      λ h. e .ended (omega (arith, n, h)),
+      settle-to _ b₁ b₁ 0 (settle-none _ b₁ S refl) (c .next-ended .result) (search needs) (le-trans (e .high) (few (bank-of g))) (e .passed),
     )
 
 mul-lane : tie.Need-mul-lane Inv-loop2 μ-loop2 Inv-loop μ-loop
@@ -283,15 +335,12 @@ add-next-ended c =
     record { fits = omega (arith, small c₅) }
 
 next-ended-requires-2 : tie.Need-next-ended-requires-2 Inv-loop2 μ-loop2 Inv-loop μ-loop
-next-ended-requires-2 c κs =
-    let c₅ = c .before .before .before .before .before in
-    let c₃₃ = groups-of (loop-of (run-of (c₅ .before .before))) in
-    (few c₃₃, omega (arith, c₅ .loop2-test .taken))
+next-ended-requires-2 c κs = search needs
 
 loop2-less : tie.Need-loop2-less Inv-loop2 μ-loop2 Inv-loop μ-loop
 loop2-less c =
     let c₆ = c .before .before .before .before .before .before in
-    omega (arith, c₆ .loop2-test .taken, c .next-ended2 .ensures .low)
+    omega (arith, c₆ .loop2-test .taken, found-next c .low)
 
 loop2-again : tie.Need-loop2-again Inv-loop2 μ-loop2 Inv-loop μ-loop
 unfolding blank
@@ -300,61 +349,58 @@ loop2-again c =
     let c₆ = c₄ .before .before in
     let c₇ = c₆ .before in
     let c₈ = c₇ .before in
-    let c₃₄ = groups-of (loop-of (run-of c₈)) in
-    let c₃₇ = c₃₄ .before .before .before in
-    let a = c₃₇ .args in
+    let g = groups-of (loop-of (run-of c₈)) in
+    let n = g .before .count .ensures in
+    let self = bank-of g in
     let l = c₇ .loop2 in
     let b₁ = counted-bank c₈ in
-    let b = bankOf (a .self .voices) (a .self .timing) (l .lanes) (l .u) (l .r) (l .d) (l .scale) (l .base) (l .left) in
-    let e = c .next-ended2 .ensures in
+    let b = bankOf (self .voices) (self .timing) (l .lanes) (l .u) (l .r) (l .d) (l .scale) (l .base) (l .left) in
+    let e = found-next c in
     let q = c₄ .advance in
     let h = c₆ .loop2-test .taken in
-    let put = settle-put (a .self .timing) b₁ b (l .v) (l .inv .2) (q .result) (small c₆) (l .inv .1 h) (q .ensures) in (
-      e .high,
-      e .ended,
-      settle-to (a .self .timing) b₁ (putLane b (l .v) (q .result)) (l .v + 1) put (c .next-ended2 .result)
-          (e .low) (le-trans (e .high) (few c₃₄)) (e .passed),
+    let put = settle-put (self .timing) b₁ b (l .v) (l .inv .2) (q .result) (small c₆) (l .inv .1 h) (q .ensures) in (
+      omega (arith, n, e .high),
+      λ h. e .ended (omega (arith, n, h)),
+      settle-to (self .timing) b₁ (putLane b (l .v) (q .result)) (l .v + 1) put (c .next-ended2 .result) (e .low) (le-trans (e .high) (few self)) (e .passed),
     )
+
+cast-done : tie.Need-cast-done Inv-loop2 μ-loop2 Inv-loop μ-loop
+cast-done c = search needs
 
 add-done : tie.Need-add-done Inv-loop2 μ-loop2 Inv-loop μ-loop
 add-done c =
-    let c₁₅ = c .before .before .before .before .before .before .before .before .before .before .before .before .before .before .before in
-    let c₃₁ = c₁₅ .before .before .before .before .before .before .before .before .before .before .before .before .before .before .before .before in
-    record { fits = omega (arith, room c₁₅, c₃₁ .good .1 .0) }
+    let c₁₃ = run-of (c .before .before) in
+    let g = groups-of (loop-of c₁₃) in
+    record { fits = omega (arith, room c₁₃, g .before .before .before .good .1 .0) }
 
 loop-less : tie.Need-loop-less Inv-loop2 μ-loop2 Inv-loop μ-loop
 loop-less c =
-    let c₁₅ = c .before .before .before .before .before .before .before .before .before .before .before .before .before .before .before in
-    let c₁₇ = c₁₅ .before .before in
-    omega (arith, c₁₇ .loop-test .taken, c₁₅ .shortest .ensures .some)
+    let c₁₃ = run-of (c .before .before) in
+    omega (arith, c₁₃ .before .before .loop-test .taken, run-is c₁₃ .0)
 
 loop-again : tie.Need-loop-again Inv-loop2 μ-loop2 Inv-loop μ-loop
 loop-again c =
-    let c₈ = c .before .before .before .before .before .before .before .before in
-    let c₁₅ = c₈ .before .before .before .before .before .before .before in
-    let c₁₈ = c₁₅ .before .before .before in
-    let c₂₈ = groups-of c₁₈ in
-    let c₂₉ = c₂₈ .before in
-    let c₃₁ = c₂₉ .before .before in
-    let a = c₃₁ .args in
-    let l = c₁₈ .loop in
+    let c₂ = c .before .before in
+    let c₁₃ = run-of c₂ in
+    let g = groups-of (loop-of c₁₃) in
+    let self = bank-of g in
+    let l = loop-of c₁₃ .loop in
     let i = c .before .loop2 in
-    let n = c₂₉ .count .result in
-    let s = 16 * c₂₈ .groups .result in
-    let run = c₁₅ .shortest in
-    let drew = c₈ .draw-rows in
-    let r = room c₁₅ in
-    let b₁ = counted-bank (c .before .before) in
-    let b = bankOf (a .self .voices) (a .self .timing) (l .lanes) (l .u) (l .r) (l .d) (l .scale) (l .base) (l .left) in
-    let b₂ = bankOf (a .self .voices) (a .self .timing) (i .lanes) (i .u) (i .r) (i .d) (i .scale) (i .base) (i .left) in
-    let e : i .v ≡ n = omega (arith, c .loop2-test .left, i .inv .0) in
-    let Z = subst (λ (v : ℕ). Lanes (a .self .timing) (settledLane (a .self .timing) v b₁) b₁ b₂) e (i .inv .2) in (
+    let s = 16 * g .groups .result in
+    let run = c₁₃ .shortest .result in
+    let drawn = c₂ .before .before .before .before .before .draw in
+    let r = room c₁₃ in
+    let b₁ = counted-bank c₂ in
+    let b = loop-bank (loop-of c₁₃) in
+    let b₂ = bankOf (self .voices) (self .timing) (i .lanes) (i .u) (i .r) (i .d) (i .scale) (i .base) (i .left) in
+    let e : i .v ≡ size self = omega (arith, g .before .count .ensures, c .loop2-test .left, i .inv .0) in
+    let Z = subst (λ (v : ℕ). Lanes (self .timing) (settledLane (self .timing) v b₁) b₁ b₂) e (i .inv .2) in (
       r .0,
-      same-len-mid (l .done * s) (length (l .out) - l .done * s) (l .out) (drew .last .0) (drew .kept .0) ∙ l .inv .1,
+      same-len-mid (l .done * s) (length (l .out) - l .done * s) (l .out) (drawn .last .0) (drawn .kept .0) ∙ l .inv .1,
       l .inv .2,
       l .inv .3,
-      ran-more n s (a .self) b b₁ b₂ (l .done) (run .result) _ (l .out) (drew .last .0) (drew .last .1 .1 .1 .1 .0) (few c₂₈) (l .inv .4)
-          (run .ensures) (drew .ensures) (counted-lanes (c .before .before)) Z (le-trans (le-add-right _ _) (r .2)),
+      ran-more (size self) s self b b₁ b₂ (l .done) run (l .out) (drawn .last .0) (few self) (l .inv .4)
+          (run-is c₁₃ .0) (run-is c₁₃ .2) (rows-drawn c₂) (counted-lanes c₂) Z (le-trans (le-add-right _ _) (r .2)),
     )
 
 same-length : tie.Need-same-length Inv-loop2 μ-loop2 Inv-loop μ-loop
@@ -368,7 +414,7 @@ returns-2 c =
     let c₁₄ = c₁₂ .before .before in
     let a = c₁₄ .args in
     let l = c .before .loop in
-    let n = c₁₂ .count .result in
+    let n = size (a .self) in
     let s = 16 * c₁₁ .groups .result in
     let e = stride-is c₁₁ in
     let S = sized (a .self) _ (c₁₄ .good .0) in
@@ -377,8 +423,8 @@ returns-2 c =
     let R = subst (λ (d : ℕ). Ran n s (a .self) d b (l .out)) f (l .inv .4) in
     let p : 0 < s = omega (arith, grouped c₁₁) in
     let w : length (a .out .now) % s ≡ 0 = omega (arith, c₁₀ .if1 .left) in (
-      done-answer (a .self) (a .out .now) s e n (c₁₂ .count .ensures) S b (l .out) w p R,
-      done-levels (a .self) (a .out .now) s e n (c₁₂ .count .ensures) S b (l .out) w p R (l .inv .1),
+      done-answer (a .self) (a .out .now) s e n refl S b (l .out) w p R,
+      done-levels (a .self) (a .out .now) s e n refl S b (l .out) w p R (l .inv .1),
     )
 
 pub process-spec : {M : Type 1} → statement M
@@ -399,11 +445,11 @@ process-spec =
     sub-shortest
     shortest-requires
     mul-from
-    mul-draw-rows
-    sub-draw-rows
-    part-draw-rows-start
-    part-draw-rows-end
-    draw-rows-requires
+    mul-draw
+    sub-draw
+    part-draw-start
+    part-draw-end
+    draw-requires
     count-down-requires
     next-ended-requires
     loop2-holds
@@ -428,6 +474,7 @@ process-spec =
     next-ended-requires-2
     loop2-less
     loop2-again
+    cast-done
     add-done
     loop-less
     loop-again

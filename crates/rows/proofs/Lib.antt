@@ -1,0 +1,6 @@
+-- Laws about rows and runs, each file on those before it.
+pub mod Lent
+pub mod RowsDrawn
+mod GroupsDrawn
+pub mod Places
+pub mod WithinRuns

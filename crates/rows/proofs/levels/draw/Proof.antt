@@ -1,0 +1,152 @@
+use mathlib.Core.Path.{_≡_, refl, _∙_, subst}
+use Prim.Native.Nat.{ℕ, _-_, _*_, _≤_}
+use native.Mathlib.Omega.{arith}
+use native.Mathlib.Nat.{mul-le-mul-left}
+use borrow.Author.Needs.{needs}
+use lib.Ieee.{nan}
+use lib.ListN.{length}
+use Rattle.rows.specs.Rows.{floatCell}
+use Rattle.rows.proofs.GroupsDrawn.{GroupsDrawn, groups-none, groups-more, groups-all, drawn-fitting, drawn-none}
+use Rattle.rows.proofs.Places.{float-told, float-shifts}
+use Rattle.rows.proofs.levels.draw.Statement.{statement}
+use Rattle.rows.proofs.levels.draw.Tie as tie
+
+abbrev Inv-loop : tie.InvT-loop
+Inv-loop out₀ voices rows r d scale base n groups stride next₀ q₀ out next q =
+    (q ≤ groups)
+    × (length out ≡ length out₀)
+    × (length next ≡ 64)
+    × GroupsDrawn nan 16 floatCell stride q n rows next₀ r d scale base out₀ out next
+
+abbrev μ-loop : tie.MeasureT-loop
+μ-loop out₀ voices rows r d scale base n groups stride next₀ q₀ out next q = groups - q
+
+-- The voices, and the groups that hold them.
+grouped : (c : tie.After-groups Inv-loop μ-loop)
+    → (1 ≤ c .groups .result) × (c .groups .result ≤ 4) × (c .before .count .result ≤ 16 * c .groups .result)
+grouped c =
+    let n = c .before .count .ensures in
+    let e = c .groups .ensures in
+    (omega arith, omega arith, omega arith)
+
+small : (c : tie.In-loop Inv-loop μ-loop) → 16 * c .before .loop .q ≤ 48
+small c = omega (arith, grouped (c .before .before .before), c .loop-test .taken)
+
+count-requires : tie.Need-count-requires Inv-loop μ-loop
+count-requires c κs = search needs
+
+groups-requires : tie.Need-groups-requires Inv-loop μ-loop
+groups-requires c κs = search needs
+
+mul-stride : tie.Need-mul-stride Inv-loop μ-loop
+mul-stride c = record { fits = omega (arith, grouped c) }
+
+mul-if1 : tie.Need-mul-if1 Inv-loop μ-loop
+mul-if1 c =
+    let s = c .before .before .before in
+    let h : 16 * c .groups .result ≤ 64 = omega (arith, grouped c) in
+    record { fits = omega (arith, mul-le-mul-left (s .args .rows) h, s .good .1 .1 .0) }
+
+returns : tie.Need-returns Inv-loop μ-loop
+returns c =
+    let g = c .before in
+    let a = g .before .before .before .args in
+    drawn-none nan 16 floatCell (g .groups .result) _ _ (a .rows) (a .u) _ _ _ _ (a .out .now) (g .groups .ensures) (c .if1 .taken)
+
+loop-holds : tie.Need-loop-holds Inv-loop μ-loop
+loop-holds c = (search needs, search needs, c .before .before .before .before .good .1 .1 .1 .0 .1 .0 .1, groups-none nan 16 floatCell _ _ _ _ _ _ _ _ _)
+
+mul-g : tie.Need-mul-g Inv-loop μ-loop
+mul-g c = search needs
+
+load-requires : tie.Need-load-requires Inv-loop μ-loop
+load-requires c κs = small (c .before .before)
+
+load-requires-2 : tie.Need-load-requires-2 Inv-loop μ-loop
+load-requires-2 c κs = small (c .before .before .before)
+
+load-requires-3 : tie.Need-load-requires-3 Inv-loop μ-loop
+load-requires-3 c κs = small (c .before .before .before .before)
+
+load-requires-4 : tie.Need-load-requires-4 Inv-loop μ-loop
+load-requires-4 c κs = small (c .before .before .before .before .before)
+
+load-requires-5 : tie.Need-load-requires-5 Inv-loop μ-loop
+load-requires-5 c κs = small (c .before .before .before .before .before .before)
+
+draw-group-requires : tie.Need-draw-group-requires Inv-loop μ-loop
+draw-group-requires c κs =
+    let c₇ = c .before .before .before .before .before .before .before in
+    let g = c₇ .before .before .before in
+    (omega (arith, grouped g), omega (arith, grouped g, c₇ .loop-test .taken), omega (arith, c₇ .before .before .if1 .left, c₇ .before .loop .inv .1))
+
+store-requires : tie.Need-store-requires Inv-loop μ-loop
+store-requires c κs = (small (c .before .before .before .before .before .before .before .before .before .before .before), c .before .before .before .before .before .before .before .before .before .before .before .before .loop .inv .2)
+
+add-q : tie.Need-add-q Inv-loop μ-loop
+add-q c = search needs
+
+loop-less : tie.Need-loop-less Inv-loop μ-loop
+loop-less c = search needs
+
+loop-again : tie.Need-loop-again Inv-loop μ-loop
+loop-again c =
+    let c₅ = c .before .before .before .before .before in
+    let c₆ = c₅ .before in
+    let c₇ = c₆ .before in
+    let c₈ = c₇ .before in
+    let c₉ = c₈ .before in
+    let c₁₂ = c₉ .before .before .before in
+    let a = c₁₂ .before .before .before .before .before .before .args in
+    let l = c₁₂ .before .loop in
+    let w = c .before .before .before .before .draw-group in
+    let s = c .store in (
+      omega (arith, c₁₂ .loop-test .taken),
+      w .kept .0 ∙ l .inv .1,
+      s .ensures .same ∙ l .inv .2,
+      groups-more nan 16 floatCell float-told float-shifts _ (l .q) _ (a .rows) (16 * l .q) (a .u) (l .next) (a .r .now) (a .d .now) (a .scale .now) (a .base .now) (a .out .now) (l .out) _
+          (c₉ .load .result) (c₈ .load2 .result) (c₇ .load3 .result) (c₆ .load4 .result) (c₅ .load5 .result)
+          (w .result) _ refl (l .inv .3) (c₉ .load .ensures) (c₈ .load2 .ensures) (c₇ .load3 .ensures) (c₆ .load4 .ensures)
+          (c₅ .load5 .ensures) (w .ensures) (s .ensures),
+    )
+
+same-length : tie.Need-same-length Inv-loop μ-loop
+same-length c = search needs
+
+returns-2 : tie.Need-returns-2 Inv-loop μ-loop
+returns-2 c =
+    let g = c .before .before .before in
+    let a = g .before .before .before .args in
+    let l = c .before .loop in
+    let e : l .q ≡ g .groups .result = omega (arith, c .loop-test .left, l .inv .0) in
+    drawn-fitting nan 16 floatCell (g .groups .result) (g .before .count .result) _ _ (a .rows) (a .u) (a .r .now) (a .d .now) (a .scale .now) (a .base .now) (a .out .now) (l .out) (l .next)
+    (g .groups .ensures) (g .before .count .ensures) (omega (arith, c .before .before .if1 .left))
+    (groups-all nan 16 floatCell (g .groups .result) (g .before .count .result) (a .rows) (a .u) (a .r .now) (a .d .now) (a .scale .now) (a .base .now) (a .out .now) (l .out) (l .next)
+    (grouped g .2) (l .inv .1)
+    (subst (λ (q : ℕ). GroupsDrawn nan 16 floatCell (16 * g .groups .result) q (g .before .count .result) (a .rows) (a .u) (a .r .now) (a .d .now) (a .scale .now) (a .base .now) (a .out .now) (l .out) (l .next)) e (l .inv .3)))
+
+pub draw-spec : {M : Type 1} → statement M
+draw-spec =
+    tie.close
+    (tie.spec
+    Inv-loop
+    μ-loop
+    count-requires
+    groups-requires
+    mul-stride
+    mul-if1
+    returns
+    loop-holds
+    mul-g
+    load-requires
+    load-requires-2
+    load-requires-3
+    load-requires-4
+    load-requires-5
+    draw-group-requires
+    store-requires
+    add-q
+    loop-less
+    loop-again
+    same-length
+    returns-2)
