@@ -5,10 +5,12 @@ ghost use Rattle.numbers.specs.Counts.{held};
 ghost use Rattle.lane.specs.Readings as Readings;
 ghost use Rattle.settings.specs.Stages as Stages;
 ghost use Rattle.lane.specs.Voices as Voices;
+use crate::lanes::Lane;
 use crate::lanes::Voice;
 use crate::lanes::join;
 use crate::lanes::same_spec;
 use crate::lanes::spec_of;
+use curve::Segment;
 use curve::UNTIMED;
 use settings::EnvelopeParams;
 use settings::Stage;
@@ -39,6 +41,40 @@ fn stages_last(p: EnvelopeParams, timing: Timing, first: Stage, first_level: f32
         stage = stage.next();
     }
     sum
+}
+
+// A plan's stage after its settings or the timing changed. A stage whose length, target and bend are
+// unchanged carries on untouched; otherwise it continues from the current level to the new target over
+// what remains of its new length, and ends at once if that has already passed. A sustain or idle level
+// moves to its new value at once. The plan and its segment come by themselves, since a voice put
+// together for the call would be one copy more.
+fn replanned(lane: Lane, seg: Segment, timing: Timing) -> Voice
+    ensures { λ r. ⌜ r ≡ Voices.replan timing (record { lane = lane; seg = seg }) ⌝ }
+{
+    let params = lane.params;
+    let stage = lane.stage;
+    let old = lane.spec;
+    let spec = spec_of(params, stage, timing, lane.to);
+    if same_spec(spec, old) {
+        return Voice {
+            lane: lane,
+            seg: seg,
+        };
+    }
+    if stage.holds() {
+        return lane.hold(stage, spec);
+    }
+    let elapsed = elapsed(
+        old.total,
+        lane.curve_total,
+        lane.pos,
+        lane.seg_len,
+        seg.left,
+    );
+    if elapsed >= spec.total {
+        return lane.enter(timing, stage.next(), spec.to);
+    }
+    lane.begin(stage, spec, seg.level(), spec.total - elapsed, 0)
 }
 
 impl Voice {
@@ -121,36 +157,11 @@ impl Voice {
         self.lane.enter(timing, Stage::Idle, 0.0)
     }
 
-    // Re-plans the current stage after its settings or the timing changed. A stage whose length,
-    // target and bend are unchanged carries on untouched; otherwise it continues from the current
-    // level to the new target over what remains of its new length, and ends at once if that has
-    // already passed. A sustain or idle level moves to its new value at once.
+    // Re-plans the current stage after its settings or the timing changed.
     pub fn replan(self, timing: Timing) -> Voice
         ensures { λ r. ⌜ r ≡ Voices.replan timing self ⌝ }
     {
-        let lane = self.lane;
-        let seg = self.seg;
-        let params = lane.params;
-        let stage = lane.stage;
-        let old = lane.spec;
-        let spec = spec_of(params, stage, timing, lane.to);
-        if same_spec(spec, old) {
-            return self;
-        }
-        if stage.holds() {
-            return lane.hold(stage, spec);
-        }
-        let elapsed = elapsed(
-            old.total,
-            lane.curve_total,
-            lane.pos,
-            lane.seg_len,
-            seg.left,
-        );
-        if elapsed >= spec.total {
-            return lane.enter(timing, stage.next(), spec.to);
-        }
-        lane.begin(stage, spec, seg.level(), spec.total - elapsed, 0)
+        replanned(self.lane, self.seg, timing)
     }
 
     // Changes the settings, and re-plans.
@@ -159,9 +170,7 @@ impl Voice {
     {
         let mut lane = self.lane;
         lane.params = params;
-        let mut voice = self;
-        voice.lane = lane;
-        voice.replan(timing)
+        replanned(lane, self.seg, timing)
     }
 
     // The segment one sample on, with `left` left.

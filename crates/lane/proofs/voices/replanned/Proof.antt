@@ -1,8 +1,8 @@
 use borrow.Author.Needs.{needs}
 use borrow.Author.Tests.{le-leb, lt-leb}
 use Rattle.lane.specs.Voices.{replan, elapsed}
-use Rattle.lane.proofs.lanes.Voice.replan.Statement.{statement}
-use Rattle.lane.proofs.lanes.Voice.replan.Tie as tie
+use Rattle.lane.proofs.voices.replanned.Statement.{statement}
+use Rattle.lane.proofs.voices.replanned.Tie as tie
 
 spec-of-requires : tie.Need-spec-of-requires
 spec-of-requires c κs = search needs
@@ -98,8 +98,8 @@ returns-4 c =
       ) at (c₃ .if3 .left)),
     )
 
-pub replan-spec : {M : Type 1} → statement M
-replan-spec =
+pub replanned-spec : {M : Type 1} → statement M
+replanned-spec =
     tie.close
     (tie.spec
     spec-of-requires
