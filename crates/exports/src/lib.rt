@@ -1,7 +1,9 @@
-// The number helpers, `Timing::samples`, a note of the single envelope and calls of the bank for C and
-// Rust to link: the comparison with the Rust and the measurements call them. Each is the library's
-// function under a symbol of its own, or a few of its calls.
+// The number helpers, `Timing::samples`, and notes, calls and readings of the single envelope and of the
+// bank for C and Rust to link: the comparison with the Rust and the measurements call them. Each is the
+// library's function under a symbol of its own, or a few of its calls.
+mod asked;
 mod banks;
+mod envelopes;
 
 ghost use mathlib.Core.Path.{_≡_};
 ghost use lib.IntN.{pos};

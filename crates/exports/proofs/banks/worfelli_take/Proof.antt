@@ -10,11 +10,13 @@ use Rattle.settings.specs.declared.settings.EnvelopeParams.{EnvelopeParams}
 use Rattle.bank.specs.declared.banks.EnvelopeBank.{EnvelopeBank}
 use Rattle.bank.specs.declared.banks.Answer.{Answer}
 use Rattle.bank.specs.Calls.{Call, opening}
-use Rattle.exports.proofs.banks.worfelli_take.Statement.{statement}
 use Rattle.bank.specs.Banks as Banks
 use Rattle.exports.specs.Note as Note
 use Rattle.exports.specs.Take as Take
+use Rattle.exports.proofs.banks.worfelli_take.Statement.{statement}
 use Rattle.exports.proofs.banks.worfelli_take.Tie as tie
+use Rattle.bank.proofs.banks.EnvelopeBank.new.Reads as banks-EnvelopeBank-new-reads
+use Rattle.timing.proofs.Timing.new.Reads as Timing-new-reads
 
 one-more : (n : ℕ) (b : EnvelopeBank) (out : List Float) → 0 < n
     → Take.blocks n b out ≡ Take.blocks (n - 1) (Take.after (Call.process (length out)) b) (Banks.written b out)
@@ -24,10 +26,11 @@ one-more (suc n) b out h =
     ap (λ (m : ℕ). Take.blocks m (Take.after (Call.process (length out)) b) (Banks.written b out)) e
 
 abbrev Inv-loop : tie.InvT-loop
-Inv-loop sample-rate attack decay sustain kind calls blocks out₀ answer bank₀ rest₀ out bank rest = (length out ≡ length out₀) × (Take.blocks rest bank out ≡ Take.blocks blocks bank₀ out₀)
+Inv-loop sample-rate attack decay sustain voices notes kind calls blocks out₀ answer last bank₀ rest₀ out bank rest =
+    (length out ≡ length out₀) × (Take.blocks rest bank out ≡ Take.blocks blocks bank₀ out₀)
 
 abbrev μ-loop : tie.MeasureT-loop
-μ-loop sample-rate attack decay sustain kind calls blocks out₀ answer bank₀ rest₀ out bank rest = rest
+μ-loop sample-rate attack decay sustain voices notes kind calls blocks out₀ answer last bank₀ rest₀ out bank rest = rest
 
 settings-requires : tie.Need-settings-requires Inv-loop μ-loop
 settings-requires c κs = search needs
@@ -38,8 +41,14 @@ new-requires c κs = search needs
 new-requires-2 : tie.Need-new-requires-2 Inv-loop μ-loop
 new-requires-2 c κs = search needs
 
+last-requires : tie.Need-last-requires Inv-loop μ-loop
+last-requires c κs = search needs
+
 repeated-requires : tie.Need-repeated-requires Inv-loop μ-loop
 repeated-requires c κs = search needs
+
+repeated-requires-2 : tie.Need-repeated-requires-2 Inv-loop μ-loop
+repeated-requires-2 c κs = search needs
 
 loop-holds : tie.Need-loop-holds Inv-loop μ-loop
 loop-holds c = (refl, refl)
@@ -57,8 +66,7 @@ loop-again : tie.Need-loop-again Inv-loop μ-loop
 loop-again c =
     let c₃ = c .before .before .before in
     let c₅ = c₃ .before .before in
-    let c₆ = c₅ .before in
-    let l = c₆ .loop in
+    let l = c₅ .before .loop in
     let q = c₃ .process in (
       q .kept .1 .0 ∙ l .inv .0,
       ap₂ (λ (x : Answer) (out : List Float). Take.blocks (l .rest - 1) (x .bank) out) (q .ensures .0) (q .ensures .1)
@@ -71,25 +79,35 @@ same-length c = search needs
 
 returns : tie.Need-returns Inv-loop μ-loop
 returns c =
-    let c₃ = c .before .before .before in
+    let c₂ = c .before .before in
+    let c₃ = c₂ .before in
     let c₄ = c₃ .before in
     let c₅ = c₄ .before in
-    let c₇ = c₅ .before .before in
-    let a = c₇ .args in
+    let c₆ = c₅ .before in
+    let c₇ = c₆ .before in
+    let a = c₇ .before .before .args in
     let l = c .before .loop in
     let p = Note.settings (a .attack) (a .decay) (a .sustain) in
-    let b = Take.fresh (a .sample-rate) (a .attack) (a .decay) (a .sustain) in
-    let opened : c₃ .new2 .result ≡ b =
-    c₃ .new2 .ensures
-    ∙ ap₂ (λ (p : EnvelopeParams) (t : Timing). Banks.new (opening 64 p t)) (c₅ .settings .ensures) (c₄ .new .ensures)
+    let b = Take.fresh (a .sample-rate) (a .attack) (a .decay) (a .sustain) (a .voices) in
+    let params = c₇ .settings .ensures in
+    let last = c₄ .last .ensures in
+    let opened : c₅ .new2 .result ≡ b =
+    c₅ .new2 .ensures
+    ∙ ap₂ (λ (p : EnvelopeParams) (t : Timing). Banks.new (opening (a .voices) p t)) params (c₆ .new .ensures)
     in
-    let called : c .before .before .repeated .result ≡ Take.repeated (a .kind) (a .calls) 0 p (b .bank) =
-    c .before .before .repeated .ensures
-    ∙ ap₂ (λ (p : EnvelopeParams) (x : Answer). Take.repeated (a .kind) (a .calls) 0 p (x .bank)) (c₅ .settings .ensures) opened
+    let struck : c₃ .repeated .result ≡ Take.struck (a .sample-rate) (a .attack) (a .decay) (a .sustain) (a .voices) (a .notes) =
+    c₃ .repeated .ensures
+    ∙ ap₂ (λ (p : EnvelopeParams) (x : Answer). Take.repeated 0 (a .notes) (c₄ .last .result) 0 p (x .bank)) params opened
+    ∙ ap (λ (n : ℕ). Take.repeated 0 (a .notes) n 0 p (b .bank)) last
+    in
+    let called : c₂ .repeated2 .result ≡ Take.repeated (a .kind) (a .calls) (a .voices - 1) 0 p (Take.struck (a .sample-rate) (a .attack) (a .decay) (a .sustain) (a .voices) (a .notes)) =
+    c₂ .repeated2 .ensures
+    ∙ ap₂ (λ (p : EnvelopeParams) (x : EnvelopeBank). Take.repeated (a .kind) (a .calls) (c₄ .last .result) 0 p x) params struck
+    ∙ ap (λ (n : ℕ). Take.repeated (a .kind) (a .calls) n 0 p (Take.struck (a .sample-rate) (a .attack) (a .decay) (a .sustain) (a .voices) (a .notes))) last
     in
     let e : l .rest ≡ 0 = omega (arith, c .loop-test .left) in (
       ap (λ (x : Answer). x .refusal) opened,
-      subst (λ (n : ℕ). Take.blocks n (l .bank) (l .out) ≡ Take.blocks (a .blocks) (c .before .before .repeated .result) (a .out .now)) e (l .inv .1)
+      subst (λ (n : ℕ). Take.blocks n (l .bank) (l .out) ≡ Take.blocks (a .blocks) (c₂ .repeated2 .result) (a .out .now)) e (l .inv .1)
           ∙ ap (λ (x : EnvelopeBank). Take.blocks (a .blocks) x (a .out .now)) called,
     )
 
@@ -102,7 +120,9 @@ worfelli-take-spec =
     settings-requires
     new-requires
     new-requires-2
+    last-requires
     repeated-requires
+    repeated-requires-2
     loop-holds
     process-requires
     sub-rest

@@ -1,7 +1,7 @@
 use mathlib.Core.Path.{refl}
 use lib.Ieee.{ofBits}
-use Rattle.exports.proofs.banks.settings.Statement.{statement}
-use Rattle.exports.proofs.banks.settings.Tie as tie
+use Rattle.exports.proofs.asked.settings.Statement.{statement}
+use Rattle.exports.proofs.asked.settings.Tie as tie
 
 returns : tie.Need-returns
 unfolding ofBits
