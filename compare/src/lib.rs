@@ -13,6 +13,8 @@
 //! - [`reference`](mod@reference): the Rust's envelope, with what document 01 adds to it.
 //! - [`random`], [`floats`], [`times`] and [`settings`]: the inputs; [`fixed`]
 //!   and [`random_lists`]: lists of calls, with the Rust's answers in [`lists`].
+//! - [`asked`]: what the measurements ask of [`library`] and of the Rust, in
+//!   [`takes`] and [`singles`].
 //! - [`arguments`], [`coverage`] and [`report`]: how a comparison is asked for,
 //!   what it reached, and what it answers.
 //!
@@ -21,6 +23,7 @@
 //! player, and `--bin bench` measures all of them.
 
 pub mod arguments;
+pub mod asked;
 pub mod banks;
 pub mod calls;
 pub mod comparison;
@@ -37,6 +40,7 @@ pub mod replay;
 pub mod report;
 pub mod settings;
 pub mod simd;
+pub mod singles;
 pub mod stand_ins;
 pub mod stored;
 pub mod takes;

@@ -4,7 +4,7 @@
 use std::fs;
 use std::path::Path;
 
-use compare::library::{Export, LENT, NUMBERS, PLAYER};
+use compare::library::{Export, LENT, NUMBERS, PLAYER, readings};
 
 /// All source files of a crate.
 fn sources(of: &str) -> Vec<String> {
@@ -59,7 +59,7 @@ fn declared_as_exported(of: &str, declared: &[&[Export]]) {
 
 #[test]
 fn exports() {
-    declared_as_exported("exports", &[NUMBERS, LENT]);
+    declared_as_exported("exports", &[NUMBERS, LENT, readings::ALL]);
 }
 
 #[test]

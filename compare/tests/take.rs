@@ -1,26 +1,87 @@
-//! A take of the library's bank is the Rust's, level by level.
+//! What the measurements ask of the library's bank and envelope is what they
+//! get of the Rust's, bit by bit.
 
-use compare::library::{self, Kind, Take};
-use compare::takes::{self, VOICES};
+use compare::asked::{KINDS, Opening, QUERIES, SINGLE_KINDS, SINGLE_QUERIES, Sound, Take};
+use compare::{library, singles, takes};
+
+const SOUND: Sound = Sound {
+    sample_rate: 48_000.0,
+    attack: 5.0,
+    decay: 20.0,
+    sustain: 0.25,
+};
+
+fn bits(levels: &[f32]) -> Vec<u32> {
+    levels.iter().map(|x| x.to_bits()).collect()
+}
+
+fn opening(voices: usize, notes: u32) -> Opening {
+    Opening {
+        sound: SOUND,
+        voices,
+        notes,
+    }
+}
 
 #[test]
-fn as_the_rust_plays_it() {
-    for kind in [Kind::Trigger, Kind::Release, Kind::Settings] {
-        for (calls, blocks, frames) in [(0, 1, 3), (64, 5, 7), (100, 2, 600), (3, 0, 1)] {
+fn takes_of_a_bank() {
+    for kind in KINDS {
+        for (voices, notes, calls, blocks, frames) in [
+            (64, 0, 0, 1, 3),
+            (64, 0, 64, 5, 7),
+            (64, 32, 100, 2, 600),
+            (1, 1, 2, 3, 400),
+            (17, 20, 40, 2, 300),
+            (3, 3, 3, 0, 1),
+        ] {
             let take = Take {
-                sample_rate: 48_000.0,
-                attack: 5.0,
-                decay: 20.0,
-                sustain: 0.25,
+                opening: opening(voices, notes),
                 kind,
                 calls,
                 blocks,
             };
-            let (mut ours, mut rust) = (vec![2.0; frames * VOICES], vec![2.0; frames * VOICES]);
+            let levels = frames * voices.div_ceil(16) * 16;
+            let (mut ours, mut rust) = (vec![2.0; levels], vec![2.0; levels]);
             assert_eq!(library::take(take, &mut ours), 0);
             takes::take(take, &mut rust);
-            let bits = |levels: &[f32]| levels.iter().map(|x| x.to_bits()).collect::<Vec<_>>();
             assert_eq!(bits(&ours), bits(&rust), "{take:?}");
+        }
+    }
+}
+
+#[test]
+fn readings_of_a_bank() {
+    for query in QUERIES {
+        for (voices, notes, times) in [(64, 0, 0), (64, 40, 100), (1, 1, 3), (17, 9, 18)] {
+            let opening = opening(voices, notes);
+            let ours = library::bank_readings(opening, query, times);
+            let rust = takes::readings(opening, query, times);
+            assert_eq!(ours, rust, "{query:?} of {opening:?}, {times} times");
+        }
+    }
+}
+
+#[test]
+fn calls_of_the_envelope() {
+    for kind in SINGLE_KINDS {
+        for (calls, frames) in [(0, 1), (1, 2000), (7, 300)] {
+            let (mut ours, mut rust) = (vec![2.0; frames], vec![2.0; frames]);
+            assert_eq!(library::single_calls(SOUND, kind, calls, &mut ours), 0);
+            singles::calls(SOUND, kind, calls, &mut rust);
+            assert_eq!(bits(&ours), bits(&rust), "{calls} of {kind:?}");
+        }
+    }
+}
+
+#[test]
+fn frames_and_readings_of_the_envelope() {
+    for times in [0, 1, 300, 2000] {
+        let ours = library::single_frames(SOUND, times);
+        assert_eq!(ours, singles::frames(SOUND, times), "{times} frames");
+        for query in QUERIES.into_iter().take(SINGLE_QUERIES) {
+            let ours = library::single_readings(SOUND, query, times);
+            let rust = singles::readings(SOUND, query, times);
+            assert_eq!(ours, rust, "{query:?}, {times} times");
         }
     }
 }

@@ -46,6 +46,7 @@ const MOVING: EnvelopeParams = EnvelopeParams {
 pub fn print() {
     long_takes();
     short_lists();
+    growing_lists();
     checks();
     stack();
 }
@@ -204,6 +205,35 @@ fn short_lists() {
                 ours / rust
             );
         }
+    }
+}
+
+/// Events as they come, with a few frames after every tenth record.
+fn growing_lists() {
+    println!(
+        "\n| Records | Voices | Ours, us a list | Rust, us a list | Ratio | Ours, ns a record | Rust, ns a record |"
+    );
+    println!("|---:|---:|---:|---:|---:|---:|---:|");
+    for records in [10, 100, 1000, 10_000] {
+        let mut list = List::open(64);
+        for number in 1..records {
+            if number % 10 == 9 {
+                list.push(Event::Frames(4));
+            } else {
+                list.event();
+            }
+        }
+        let levels = records / 10 * 4 * stride(64);
+        let (ours, rust) = plays(&list.bytes, 10_000 / records, 4 * levels);
+        let each = |nanoseconds: f64| nanoseconds / records as f64;
+        println!(
+            "| {records} | 64 | {:.1} | {:.1} | {:.2} | {:.1} | {:.1} |",
+            ours / 1e3,
+            rust / 1e3,
+            ours / rust,
+            each(ours),
+            each(rust)
+        );
     }
 }
 
