@@ -47,8 +47,8 @@ pub fn stride(voices: usize) -> usize {
     voices.div_ceil(16).max(1) * 16
 }
 
-/// Blocks of voices that are all in a bent stage, all idle, or half of them
-/// each.
+/// Blocks of voices that are all in a bent stage, all idle, or mixed: the first
+/// half of them in one and the others idle.
 fn blocks() {
     println!(
         "\n| Draw | Voices | Frames of a block | Ours, ns a level | Rust, ns a level | Ratio | Plain fill, ns a level |"

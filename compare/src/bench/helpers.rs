@@ -73,7 +73,7 @@ macro_rules! row {
 /// Prints the table.
 pub fn print() {
     println!(
-        "| Helper | Inputs | Overlapped: ours, ns | Rust, ns | Ratio | Apart: ours, ns | Rust, ns | Ratio |"
+        "\n| Helper | Inputs | Overlapped: ours, ns | Rust, ns | Ratio | Apart: ours, ns | Rust, ns | Ratio |"
     );
     println!("|---|---|---:|---:|---:|---:|---:|---:|");
     let mut random = Random::new(SEED);

@@ -54,9 +54,11 @@ abbrev pub repeated : ℕ → ℕ → ℕ → ℕ → EnvelopeParams → Envelop
 repeated kind zero last v p b = b
 repeated kind (suc n) last v p b = repeated kind n last (next last v) p (called kind v (next last v) p b)
 
--- After so many new notes on n fresh voices in turn.
-abbrev pub struck : Float → Float → Float → Float → ℕ → ℕ → EnvelopeBank
-struck rate attack decay sustain n notes = repeated 0 notes (n - 1) 0 (Note.settings attack decay sustain) (fresh rate attack decay sustain n .bank)
+-- After so many new notes on n fresh voices in turn, beside the fresh call's refusal.
+abbrev pub struck : Float → Float → Float → Float → ℕ → ℕ → Answer
+struck rate attack decay sustain n notes =
+    let b = fresh rate attack decay sustain n in
+    record { refusal = b .refusal; bank = repeated 0 notes (n - 1) 0 (Note.settings attack decay sustain) (b .bank) }
 
 -- What an output holds after n blocks of its length.
 abbrev pub blocks : ℕ → EnvelopeBank → List Float → List Float

@@ -8,6 +8,7 @@ ghost use Rattle.exports.specs.Note as Note;
 ghost use Rattle.exports.specs.Reading as Reading;
 ghost use Rattle.exports.specs.Take as Take;
 use crate::asked;
+use bank::Answer;
 use bank::EnvelopeBank;
 use bank::FramesReading;
 use bank::IdleReading;
@@ -91,6 +92,26 @@ fn repeated(
     b
 }
 
+// A fresh bank of so many voices after new notes on them in turn, and the fresh call's refusal.
+fn struck(
+    sample_rate: f64,
+    attack: f32,
+    decay: f32,
+    sustain: f32,
+    voices: usize,
+    notes: u32,
+) -> Answer
+    ensures { λ r. ⌜ r ≡ Take.struck «sample_rate» attack decay sustain voices notes ⌝ }
+{
+    let params = asked::settings(attack, decay, sustain);
+    let fresh = EnvelopeBank::new(voices, params, Timing::new(sample_rate));
+    let bank = repeated(fresh.bank, 0, notes, asked::last(voices), params);
+    Answer {
+        refusal: fresh.refusal,
+        bank: bank,
+    }
+}
+
 // Makes new notes on the voices of a fresh bank in turn, then `calls` calls of a kind on them, and then
 // writes `blocks` blocks one after the other into `out`. Answers the fresh call's refusal.
 #[no_mangle]
@@ -106,20 +127,19 @@ pub extern "C" fn worfelli_take(
     blocks: u32,
     out: &mut [f32],
 ) -> u32
-    ensures refusal { λ r. ⌜ r ≡ Take.fresh «sample_rate» attack decay sustain voices .refusal ⌝ }
-    ensures written { λ r. ⌜ now (out .exit) ≡ Take.blocks blocks (Take.repeated kind calls (voices - 1) 0 (Note.settings attack decay sustain) (Take.struck «sample_rate» attack decay sustain voices notes)) (now (out .entry)) ⌝ }
+    ensures refusal { λ r. ⌜ r ≡ Take.struck «sample_rate» attack decay sustain voices notes .refusal ⌝ }
+    ensures written { λ r. ⌜ now (out .exit) ≡ Take.blocks blocks (Take.repeated kind calls (voices - 1) 0 (Note.settings attack decay sustain) (Take.struck «sample_rate» attack decay sustain voices notes .bank)) (now (out .entry)) ⌝ }
 {
+    let opened = struck(sample_rate, attack, decay, sustain, voices, notes);
     let params = asked::settings(attack, decay, sustain);
-    let answer = EnvelopeBank::new(voices, params, Timing::new(sample_rate));
     let last = asked::last(voices);
-    let struck = repeated(answer.bank, 0, notes, last, params);
-    let mut bank = repeated(struck, kind, calls, last, params);
+    let mut bank = repeated(opened.bank, kind, calls, last, params);
     let mut rest = blocks;
     while rest > 0 {
         bank = bank.process(out).bank;
         rest -= 1;
     }
-    answer.refusal
+    opened.refusal
 }
 
 fn params_number(x: ParamsReading) -> u64
@@ -197,12 +217,10 @@ pub extern "C" fn worfelli_bank_readings(
     kind: u32,
     times: u32,
 ) -> u64
-    ensures { λ r. ⌜ r ≡ Reading.ofBank kind times (voices - 1) 0 (Take.struck «sample_rate» attack decay sustain voices notes) 0 ⌝ }
+    ensures { λ r. ⌜ r ≡ Reading.ofBank kind times (voices - 1) 0 (Take.struck «sample_rate» attack decay sustain voices notes .bank) 0 ⌝ }
 {
-    let params = asked::settings(attack, decay, sustain);
-    let answer = EnvelopeBank::new(voices, params, Timing::new(sample_rate));
+    let bank = struck(sample_rate, attack, decay, sustain, voices, notes).bank;
     let last = asked::last(voices);
-    let bank = repeated(answer.bank, 0, notes, last, params);
     let mut sum = 0;
     let mut voice = 0;
     let mut rest = times;

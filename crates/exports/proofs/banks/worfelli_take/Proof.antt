@@ -5,18 +5,15 @@ use native.Mathlib.Omega.{arith}
 use borrow.Author.Needs.{needs}
 use lib.Ieee.{Float}
 use lib.ListN.{length}
-use Rattle.timing.specs.declared.Timing.{Timing}
 use Rattle.settings.specs.declared.settings.EnvelopeParams.{EnvelopeParams}
 use Rattle.bank.specs.declared.banks.EnvelopeBank.{EnvelopeBank}
 use Rattle.bank.specs.declared.banks.Answer.{Answer}
-use Rattle.bank.specs.Calls.{Call, opening}
+use Rattle.bank.specs.Calls.{Call}
 use Rattle.bank.specs.Banks as Banks
-use Rattle.exports.specs.Note as Note
 use Rattle.exports.specs.Take as Take
+use Rattle.exports.specs.Note as Note
 use Rattle.exports.proofs.banks.worfelli_take.Statement.{statement}
 use Rattle.exports.proofs.banks.worfelli_take.Tie as tie
-use Rattle.bank.proofs.banks.EnvelopeBank.new.Reads as banks-EnvelopeBank-new-reads
-use Rattle.timing.proofs.Timing.new.Reads as Timing-new-reads
 
 one-more : (n : ℕ) (b : EnvelopeBank) (out : List Float) → 0 < n
     → Take.blocks n b out ≡ Take.blocks (n - 1) (Take.after (Call.process (length out)) b) (Banks.written b out)
@@ -26,29 +23,23 @@ one-more (suc n) b out h =
     ap (λ (m : ℕ). Take.blocks m (Take.after (Call.process (length out)) b) (Banks.written b out)) e
 
 abbrev Inv-loop : tie.InvT-loop
-Inv-loop sample-rate attack decay sustain voices notes kind calls blocks out₀ answer last bank₀ rest₀ out bank rest =
+Inv-loop sample-rate attack decay sustain voices notes kind calls blocks out₀ opened last bank₀ rest₀ out bank rest =
     (length out ≡ length out₀) × (Take.blocks rest bank out ≡ Take.blocks blocks bank₀ out₀)
 
 abbrev μ-loop : tie.MeasureT-loop
-μ-loop sample-rate attack decay sustain voices notes kind calls blocks out₀ answer last bank₀ rest₀ out bank rest = rest
+μ-loop sample-rate attack decay sustain voices notes kind calls blocks out₀ opened last bank₀ rest₀ out bank rest = rest
+
+struck-requires : tie.Need-struck-requires Inv-loop μ-loop
+struck-requires c κs = search needs
 
 settings-requires : tie.Need-settings-requires Inv-loop μ-loop
 settings-requires c κs = search needs
-
-new-requires : tie.Need-new-requires Inv-loop μ-loop
-new-requires c κs = search needs
-
-new-requires-2 : tie.Need-new-requires-2 Inv-loop μ-loop
-new-requires-2 c κs = search needs
 
 last-requires : tie.Need-last-requires Inv-loop μ-loop
 last-requires c κs = search needs
 
 repeated-requires : tie.Need-repeated-requires Inv-loop μ-loop
 repeated-requires c κs = search needs
-
-repeated-requires-2 : tie.Need-repeated-requires-2 Inv-loop μ-loop
-repeated-requires-2 c κs = search needs
 
 loop-holds : tie.Need-loop-holds Inv-loop μ-loop
 loop-holds c = (refl, refl)
@@ -83,31 +74,18 @@ returns c =
     let c₃ = c₂ .before in
     let c₄ = c₃ .before in
     let c₅ = c₄ .before in
-    let c₆ = c₅ .before in
-    let c₇ = c₆ .before in
-    let a = c₇ .before .before .args in
+    let a = c₅ .before .before .args in
     let l = c .before .loop in
+    let b = Take.struck (a .sample-rate) (a .attack) (a .decay) (a .sustain) (a .voices) (a .notes) in
     let p = Note.settings (a .attack) (a .decay) (a .sustain) in
-    let b = Take.fresh (a .sample-rate) (a .attack) (a .decay) (a .sustain) (a .voices) in
-    let params = c₇ .settings .ensures in
-    let last = c₄ .last .ensures in
-    let opened : c₅ .new2 .result ≡ b =
-    c₅ .new2 .ensures
-    ∙ ap₂ (λ (p : EnvelopeParams) (t : Timing). Banks.new (opening (a .voices) p t)) params (c₆ .new .ensures)
-    in
-    let struck : c₃ .repeated .result ≡ Take.struck (a .sample-rate) (a .attack) (a .decay) (a .sustain) (a .voices) (a .notes) =
-    c₃ .repeated .ensures
-    ∙ ap₂ (λ (p : EnvelopeParams) (x : Answer). Take.repeated 0 (a .notes) (c₄ .last .result) 0 p (x .bank)) params opened
-    ∙ ap (λ (n : ℕ). Take.repeated 0 (a .notes) n 0 p (b .bank)) last
-    in
-    let called : c₂ .repeated2 .result ≡ Take.repeated (a .kind) (a .calls) (a .voices - 1) 0 p (Take.struck (a .sample-rate) (a .attack) (a .decay) (a .sustain) (a .voices) (a .notes)) =
-    c₂ .repeated2 .ensures
-    ∙ ap₂ (λ (p : EnvelopeParams) (x : EnvelopeBank). Take.repeated (a .kind) (a .calls) (c₄ .last .result) 0 p x) params struck
-    ∙ ap (λ (n : ℕ). Take.repeated (a .kind) (a .calls) n 0 p (Take.struck (a .sample-rate) (a .attack) (a .decay) (a .sustain) (a .voices) (a .notes))) last
+    let called : c₂ .repeated .result ≡ Take.repeated (a .kind) (a .calls) (a .voices - 1) 0 p (b .bank) =
+    c₂ .repeated .ensures
+    ∙ ap₂ (λ (p : EnvelopeParams) (x : Answer). Take.repeated (a .kind) (a .calls) (c₃ .last .result) 0 p (x .bank)) (c₄ .settings .ensures) (c₅ .struck .ensures)
+    ∙ ap (λ (n : ℕ). Take.repeated (a .kind) (a .calls) n 0 p (b .bank)) (c₃ .last .ensures)
     in
     let e : l .rest ≡ 0 = omega (arith, c .loop-test .left) in (
-      ap (λ (x : Answer). x .refusal) opened,
-      subst (λ (n : ℕ). Take.blocks n (l .bank) (l .out) ≡ Take.blocks (a .blocks) (c₂ .repeated2 .result) (a .out .now)) e (l .inv .1)
+      ap (λ (x : Answer). x .refusal) (c₅ .struck .ensures),
+      subst (λ (n : ℕ). Take.blocks n (l .bank) (l .out) ≡ Take.blocks (a .blocks) (c₂ .repeated .result) (a .out .now)) e (l .inv .1)
           ∙ ap (λ (x : EnvelopeBank). Take.blocks (a .blocks) x (a .out .now)) called,
     )
 
@@ -117,12 +95,10 @@ worfelli-take-spec =
     (tie.spec
     Inv-loop
     μ-loop
+    struck-requires
     settings-requires
-    new-requires
-    new-requires-2
     last-requires
     repeated-requires
-    repeated-requires-2
     loop-holds
     process-requires
     sub-rest
