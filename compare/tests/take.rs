@@ -85,3 +85,34 @@ fn frames_and_readings_of_the_envelope() {
         }
     }
 }
+
+#[test]
+fn refused_by_number() {
+    let over = Sound {
+        sample_rate: 2e6,
+        ..SOUND
+    };
+    for (opening, refusal) in [
+        (opening(65, 1), 1),
+        (
+            Opening {
+                sound: over,
+                ..opening(64, 1)
+            },
+            4,
+        ),
+        (opening(0, 1), 0),
+    ] {
+        let take = Take {
+            opening,
+            kind: KINDS[0],
+            calls: 1,
+            blocks: 1,
+        };
+        let mut out = [2.0; 16];
+        assert_eq!(library::take(take, &mut out), refusal, "{take:?}");
+        assert_eq!(out, [0.0; 16], "a row of no voices");
+    }
+    let mut out = [2.0];
+    assert_eq!(library::single_calls(over, SINGLE_KINDS[0], 1, &mut out), 4);
+}
