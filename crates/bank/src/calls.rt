@@ -189,9 +189,10 @@ impl EnvelopeBank {
                 bank: self,
             };
         }
+        let timing = self.timing;
         self.with(
             settings::refused_params(params),
-            self.timing,
+            timing,
             voice,
             1,
             Change::Params(params),
@@ -202,9 +203,10 @@ impl EnvelopeBank {
     pub fn set_all_params(self, params: EnvelopeParams) -> Answer
         ensures { λ r. ⌜ r ≡ Banks.answer self (Call.setAllParams params) ⌝ }
     {
+        let timing = self.timing;
         self.with(
             settings::refused_params(params),
-            self.timing,
+            timing,
             0,
             count(self.voices),
             Change::Params(params),
@@ -229,9 +231,10 @@ impl EnvelopeBank {
     pub fn trigger(self, voice: usize, trigger: Trigger) -> Answer
         ensures { λ r. ⌜ r ≡ Banks.answer self (Call.trigger voice trigger) ⌝ }
     {
+        let timing = self.timing;
         self.with(
             refused(self.voices, voice),
-            self.timing,
+            timing,
             voice,
             1,
             Change::Trigger(trigger),
@@ -242,9 +245,10 @@ impl EnvelopeBank {
     pub fn release(self, voice: usize) -> Answer
         ensures { λ r. ⌜ r ≡ Banks.answer self (Call.release voice) ⌝ }
     {
+        let timing = self.timing;
         self.with(
             refused(self.voices, voice),
-            self.timing,
+            timing,
             voice,
             1,
             Change::Release,
@@ -255,9 +259,10 @@ impl EnvelopeBank {
     pub fn reset(self, voice: usize) -> Answer
         ensures { λ r. ⌜ r ≡ Banks.answer self (Call.reset voice) ⌝ }
     {
+        let timing = self.timing;
         self.with(
             refused(self.voices, voice),
-            self.timing,
+            timing,
             voice,
             1,
             Change::Reset,
@@ -271,9 +276,10 @@ impl EnvelopeBank {
     {
         if from < count(self.voices) {
             let source = self.load(from);
+            let timing = self.timing;
             return self.with(
                 refused(self.voices, voice),
-                self.timing,
+                timing,
                 voice,
                 1,
                 Change::Join(source),

@@ -25,7 +25,7 @@ refused-requires c κs = search needs
 with-requires : tie.Need-with-requires
 with-requires c κs =
     let c₄ = c .before .before .before .before in
-    let a = c₄ .args in
+    let a = c₄ .before .args in
     λ e. named-lane (a .voice) (a .self .voices) (c .refused .result) (c .refused .ensures) e
 
 returns : tie.Need-returns
@@ -34,11 +34,11 @@ returns c =
     let c₃ = c .before .before .before in
     let c₄ = c₃ .before in
     let c₅ = c₄ .before in
-    let a = c₅ .args in
+    let a = c₅ .before .args in
     let q = c .before .refused in
-    let source = c .before .before .load in
+    let source = c₃ .load in
     let f = changed (a .self .timing) (Join (source .result)) in
-    let h = lt-ltb (a .from) (size (a .self)) (omega (arith, c₃ .if1 .taken, c₄ .count .ensures)) in
+    let h = lt-ltb (a .from) (size (a .self)) (omega (arith, c₄ .if1 .taken, c₅ .count .ensures)) in
     c .with .ensures
     ∙ answer-is (a .self) (spread (a .self .timing) (a .voice) (a .voice + 1) f (a .self)) (Call.join (a .voice) (a .from)) (q .result) (rw h (q .ensures))
     (λ e. spread-one f (a .self) (a .voice) ∙ ap (λ (c : Voice). put (a .voice) c (a .self)) (source .ensures))

@@ -22,8 +22,8 @@ with-requires c κs = search needs
 returns : tie.Need-returns
 unfolding refusal moved changed onAll arrange
 returns c =
-    let c₃ = c .before .before .before in
-    let a = c₃ .args in
+    let c₄ = c .before .before .before .before in
+    let a = c₄ .args in
     let f = changed (a .self .timing) (Params (a .params)) in
     let n : 0 + c .before .count .result ≡ size (a .self) = zero-add _ ∙ c .before .count .ensures in
     c .with .ensures

@@ -31,21 +31,21 @@ refused-params-requires c κs = search needs
 with-requires : tie.Need-with-requires
 with-requires c κs =
     let c₃ = c .before .before .before in
-    let a = c₃ .args in
-    λ e. named-lane (a .voice) (a .self .voices) (c .before .before .refused .result) (c .before .before .refused .ensures) (omega (arith, c .before .if1 .left))
+    let a = c₃ .before .args in
+    λ e. named-lane (a .voice) (a .self .voices) (c₃ .refused .result) (c₃ .refused .ensures) (omega (arith, c .before .before .if1 .left))
 
 returns-2 : tie.Need-returns-2
 unfolding refusal moved changed
 returns-2 c =
     let c₃ = c .before .before .before in
     let c₄ = c₃ .before in
-    let a = c₄ .args in
-    let q = c₃ .refused in
+    let a = c₄ .before .args in
+    let q = c₄ .refused in
     let f = changed (a .self .timing) (Params (a .params)) in
     c .with .ensures
     ∙ answer-is (a .self) (spread (a .self .timing) (a .voice) (a .voice + 1) f (a .self)) (Call.setParams (a .voice) (a .params)) _
     (c .before .refused-params .ensures
-    ∙ present (ltb (a .voice) (size (a .self))) (q .result) (Refusals.params (a .params)) (q .ensures) (omega (arith, c .before .before .if1 .left)))
+    ∙ present (ltb (a .voice) (size (a .self))) (q .result) (Refusals.params (a .params)) (q .ensures) (omega (arith, c₃ .if1 .left)))
     (λ e. spread-one f (a .self) (a .voice))
 
 pub set-params-spec : {M : Type 1} → statement M

@@ -14,13 +14,13 @@ refused-requires c κs = search needs
 
 with-requires : tie.Need-with-requires
 with-requires c κs =
-    let a = c .before .args in
+    let a = c .before .before .args in
     λ e. named-lane (a .voice) (a .self .voices) (c .refused .result) (c .refused .ensures) e
 
 returns : tie.Need-returns
 unfolding refusal moved changed
 returns c =
-    let a = c .before .before .args in
+    let a = c .before .before .before .args in
     let f = changed (a .self .timing) (Trigger (a .trigger)) in
     c .with .ensures
     ∙ answer-is (a .self) (spread (a .self .timing) (a .voice) (a .voice + 1) f (a .self)) (Call.trigger (a .voice) (a .trigger)) _ (c .before .refused .ensures)
