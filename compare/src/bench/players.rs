@@ -46,6 +46,7 @@ const MOVING: EnvelopeParams = EnvelopeParams {
 pub fn print() {
     long_takes();
     short_lists();
+    kinds();
     growing_lists();
     checks();
     stack();
@@ -202,6 +203,60 @@ fn short_lists() {
                 "| {about} | {voices} | {levels} | {:.1} | {:.1} | {:.2} |",
                 ours / 1e3,
                 rust / 1e3,
+                ours / rust
+            );
+        }
+    }
+}
+
+/// Lists of one kind of record, which is done in place in our player's loop, on
+/// a bank whose voices all move.
+fn kinds() {
+    const RECORDS: usize = 1000;
+    println!("\n| 1,000 records of | Voices | Ours, ns a record | Rust, ns a record | Ratio |");
+    println!("|---|---:|---:|---:|---:|");
+    type Push = fn(&mut List);
+    let kinds: [(&str, usize, Push); 6] = [
+        ("a new note", 0, |list| {
+            let voice = list.voice();
+            list.push(Event::Trigger(voice, Trigger::New));
+        }),
+        ("a release or a retrigger", 0, |list| {
+            let voice = list.voice();
+            let event = match list.random.below(2) {
+                0 => Event::Release(voice),
+                _ => Event::Trigger(voice, Trigger::Retrigger),
+            };
+            list.push(event);
+        }),
+        ("settings", 0, |list| {
+            let (voice, settings) = (list.voice(), list.settings());
+            list.push(Event::Settings(voice, settings));
+        }),
+        ("a join", 0, |list| {
+            let (voice, from) = (list.voice(), list.voice());
+            list.push(Event::Join(voice, from));
+        }),
+        ("1 frame", 1, |list| list.push(Event::Frames(1))),
+        ("16 frames", 16, |list| list.push(Event::Frames(16))),
+    ];
+    for (about, frames, push) in kinds {
+        for voices in [1, 16, 64] {
+            let mut list = List::open(voices);
+            list.push(Event::SettingsForAll(MOVING));
+            for voice in 0..voices {
+                list.push(Event::Trigger(voice, Trigger::New));
+            }
+            for _ in 0..RECORDS {
+                push(&mut list);
+            }
+            let levels = RECORDS * frames * stride(voices);
+            let (ours, rust) = plays(&list.bytes, 4, 4 * levels);
+            let each = |nanoseconds: f64| nanoseconds / RECORDS as f64;
+            println!(
+                "| {about} | {voices} | {:.1} | {:.1} | {:.2} |",
+                each(ours),
+                each(rust),
                 ours / rust
             );
         }
