@@ -1,11 +1,11 @@
 -- A bank lane by lane: its seven arrays are read and written as one list of voices.
 use mathlib.Core.Path.{_≡_, refl, sym, ap, _∙_, subst}
-use mathlib.Core.Bool.{Bool, true, false, cond}
+use mathlib.Core.Bool.{Bool, true, false}
 use mathlib.Core.List.{List}
 use Prim.Native.Nat.{ℕ, zero, suc, _<_}
 use native.Mathlib.Omega.{arith}
 use native.Mathlib.Nat.{not-suc-le-zero, le-of-suc-le-suc}
-use borrow.Author.Tests.{eqb-true, eqb-false, eq-eqb, ne-eqb}
+use borrow.Author.Tests.{eqb-true, eqb-false}
 use lib.Dec.{eqb}
 use lib.Ieee.{Float, nan}
 use lib.ListN.{length, getD, set, length-set}
@@ -15,7 +15,7 @@ use Rattle.settings.specs.declared.settings.EnvelopeParams.{EnvelopeParams}
 use Rattle.lane.specs.declared.lanes.Lane.{Lane}
 use Rattle.lane.specs.declared.lanes.Voice.{Voice}
 use Rattle.bank.specs.declared.banks.EnvelopeBank.{EnvelopeBank}
-use Rattle.bank.specs.Banks.{blank, voice, tabulate, arrange, put, idle}
+use Rattle.bank.specs.Banks.{blank, voice, tabulate, arrange, idle}
 
 module _ {A : Type 0} where
   pub length-tabulate : (n : ℕ) (f : ℕ → A) → length (tabulate n f) ≡ n
@@ -187,14 +187,6 @@ lanes-put t f g b₀ b n c L h e same =
 -- The same lanes, said in another way.
 pub lanes-same : (t : Timing) (f g : ℕ → Voice) (b₀ b : EnvelopeBank) → Lanes t f b₀ b → ((w : ℕ) → w < 64 → f w ≡ g w) → Lanes t g b₀ b
 lanes-same t f g b₀ b L e = record { voices = L .voices; timing = L .timing; sized = L .sized; lane = λ v h. L .lane v h ∙ e v h }
-
--- A voice that is stored in its lane is put into the bank.
-pub put-lane : (b : EnvelopeBank) (n : ℕ) (c : Voice) → Sized b → n < 64 → putLane b n c ≡ put n c b
-unfolding put
-put-lane b n c S h =
-    lanes-arranged (λ w. cond (eqb w n) c (voice b w)) b (putLane b n c)
-    (lanes-put (b .timing) (voice b) (λ w. cond (eqb w n) c (voice b w)) b b n c (record { voices = refl; timing = refl; sized = S; lane = λ v q. refl }) h
-    (rw (eq-eqb n n refl)) (λ w q d. rw (ne-eqb w n d)))
 
 -- A fresh bank.
 pub idle-sized : (n : ℕ) (p : EnvelopeParams) (t : Timing) → Sized (idle n p t)

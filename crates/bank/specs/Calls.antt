@@ -1,6 +1,6 @@
 -- The bank's calls, and the number that refuses each, read from the calls alone: document 01, 'The bank' and "No's, by call".
 use Prim.Native.Nat.{ℕ, zero, suc, _%_}
-use mathlib.Core.Bool.{Bool, cond, not}
+use mathlib.Core.Bool.{cond}
 use lib.Dec.{ltb, eqb}
 use Rattle.numbers.specs.Constants as Constants
 use Rattle.timing.specs.declared.Timing.{Timing}

@@ -15,7 +15,7 @@ use Rattle.bank.specs.declared.calls.IdleReading.{IdleReading}
 use Rattle.bank.specs.declared.calls.FramesReading.{FramesReading}
 use Rattle.bank.specs.Calls.{Query, Call, Known, ifAccepted, refusal}
 use Rattle.rows.specs.Strides.{strideOf}
-use Rattle.bank.specs.Banks.{size, known, envelope, rows}
+use Rattle.bank.specs.Banks.{known, envelope, rows}
 
 pub data Reply : Type 0 where
   refused : ℕ → Reply

@@ -260,13 +260,7 @@ impl EnvelopeBank {
         ensures { λ r. ⌜ r ≡ Banks.answer self (Call.reset voice) ⌝ }
     {
         let timing = self.timing;
-        self.with(
-            refused(self.voices, voice),
-            timing,
-            voice,
-            1,
-            Change::Reset,
-        )
+        self.with(refused(self.voices, voice), timing, voice, 1, Change::Reset)
     }
 
     // `voice` takes the envelope of `from` exactly as it stands, so that the two move together from

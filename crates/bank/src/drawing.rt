@@ -36,8 +36,8 @@ impl EnvelopeBank {
         while done < frames {
             let run = rows::shortest(&left, self.voices, frames - done);
             let from = done * stride;
-            u = rows::draw(&mut out[from..], self.voices, run, u, &r, &d, &scale, &base);
-            left = rows::count_down(left, self.voices, run);
+            u = rows::draw(&mut out[from..], self.voices, run, u, &r, &d, &scale, &base).u;
+            left = rows::count_down(left, self.voices, run).left;
             let mut v = rows::next_ended(&left, self.voices, 0);
             while v < voices {
                 let lane = lanes[v];

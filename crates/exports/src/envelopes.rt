@@ -4,7 +4,6 @@ ghost use mathlib.Core.Path.{_≡_};
 ghost use lib.ListN.{length};
 ghost use Rattle.envelope.specs.Envelopes as Envelopes;
 ghost use Rattle.exports.specs.Note as Note;
-ghost use Rattle.exports.specs.Reading as Reading;
 ghost use Rattle.exports.specs.Single as Single;
 use crate::asked;
 use envelope::Answer;

@@ -7,7 +7,6 @@ use Prim.Native.Nat.{ℕ, _+_, _-_, _<_, _≤_, min}
 use native.Mathlib.Omega.{arith}
 use borrow.Author.Tests.{lt-ltb, le-ltb, eq-eqb, ne-eqb, eqb-false}
 use lib.Dec.{ltb, eqb}
-use lib.Ieee.{Float, nan}
 use lib.ListN.{getD, set}
 use lib.Seq.{getD-set-other}
 use Rattle.rows.specs.Runs.{nextEnded}
@@ -20,7 +19,7 @@ use Rattle.envelope.proofs.Fill.{split}
 use Rattle.bank.specs.declared.banks.EnvelopeBank.{EnvelopeBank}
 use Rattle.bank.specs.Banks.{voice, size, arrange, put, onAll, withTiming, frames}
 use Rattle.bank.specs.Parts.{followed}
-use Rattle.bank.proofs.Lanes.{Sized, Lanes, bank-ext, arrange-sized, voice-arrange, lanes-arranged, arrange-ext, putLane, put-here, put-there}
+use Rattle.bank.proofs.Lanes.{Sized, Lanes, bank-ext, arrange-sized, voice-arrange, arrange-ext, putLane, put-here, put-there}
 use Rattle.bank.proofs.Frames.{frames-lanes}
 use Rattle.bank.proofs.Runs.{counted, ranLane, run-whole, followed-not}
 use Rattle.events.specs.declared.Event.{Event}

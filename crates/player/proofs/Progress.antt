@@ -30,9 +30,8 @@ use Rattle.checking.specs.Deeds.{deed, framesOf}
 use Rattle.checking.specs.Checks.{start, passed, judged, met, checkedFrom, checked}
 use Rattle.checking.proofs.Judging.{passed-few}
 use Rattle.checking.proofs.Passing.{one-more, some, refused-none, still, Accepted, judged-accepted}
-use Rattle.player.specs.declared.turns.Turn.{Turn}
 use Rattle.player.specs.Parts.{opened, turnOf, timingAfter}
-use Rattle.player.specs.Playing.{ifRecord, eventsFrom, events, unopened, after, heard, bytes, levelBytes}
+use Rattle.player.specs.Playing.{ifRecord, eventsFrom, unopened, after, heard, bytes, levelBytes}
 use Rattle.player.proofs.Bytes.{sets-append, bytes-append, length-bytes}
 use Rattle.player.proofs.Doing.{draws, InTurn, turned, in-lanes, turned-after, quiet, asks-none, turned-voices, turned-sized, same-voices, Drawn, drawn, differ}
 use Rattle.player.proofs.Pending.{pending, pending-none, pending-turned}

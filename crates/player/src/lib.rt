@@ -87,8 +87,8 @@ fn play(list: &[u8], out: &mut [u8])
                 break;
             }
             let run = rows::shortest(&left, voices, rest as usize);
-            u = rows::draw_bytes(&mut out[to..], voices, run, u, &r, &d, &scale, &base);
-            left = rows::count_down(left, voices, run);
+            u = rows::draw_bytes(&mut out[to..], voices, run, u, &r, &d, &scale, &base).u;
+            left = rows::count_down(left, voices, run).left;
             to += run as usize * row;
             rest -= run;
             v = rows::next_ended(&left, voices, 0);

@@ -1,4 +1,7 @@
 // Sixteen lanes: taken out of the arrays and put back, one row on, and whether they stand still.
+pub(crate) mod bytes;
+pub(crate) mod levels;
+
 ghost use mathlib.Core.Path.{_≡_};
 ghost use mathlib.Core.Bool.{true, cond};
 ghost use Prim.Native.Nat.{_+_, _-_, _≤_};
@@ -8,6 +11,11 @@ ghost use lib.ListN.{length, getD, replicate};
 ghost use Rattle.numbers.specs.Constants as Constants;
 ghost use Rattle.envelope.specs.Parts.{Filled};
 ghost use Rattle.rows.specs.Rows as Rows;
+
+// u of 64 lanes after some rows.
+pub struct Moved {
+    pub u: [f32; 64],
+}
 
 // Fewer rows than this are not worth the test.
 const STILL_ROWS: u32 = 16;
@@ -22,7 +30,7 @@ fn pick(first: bool, a: f32, b: f32) -> f32
 }
 
 // The sixteen lanes from lane g on, with zeros in those that are no voices: such a lane stays at +0.
-pub(crate) fn load(a: &[f32; 64], g: usize, voices: usize) -> [f32; 16]
+fn load(a: &[f32; 64], g: usize, voices: usize) -> [f32; 16]
     requires { ⌜ g ≤ 48 ⌝ }
     ensures { λ r. ⌜ Filled nan (λ i. cond (ltb (g + i) voices) (getD (now (a .entry)) (g + i) nan) Constants.zero) 0 16 (replicate 16 Constants.zero) r ⌝ }
 {
@@ -36,7 +44,7 @@ pub(crate) fn load(a: &[f32; 64], g: usize, voices: usize) -> [f32; 16]
 }
 
 // Puts the voices among sixteen lanes back.
-pub(crate) fn store(a: &mut [f32; 64], g: usize, voices: usize, x: [f32; 16])
+fn store(a: &mut [f32; 64], g: usize, voices: usize, x: [f32; 16])
     requires { ⌜ (g ≤ 48) × (length (now a) ≡ 64) ⌝ }
     ensures { λ _. ⌜ Filled nan (λ j. cond (ltb j voices) (getD x (j - g) nan) (getD (now (a .entry)) j nan)) g (g + 16) (now (a .entry)) (now (a .exit)) ⌝ }
 {
@@ -49,7 +57,7 @@ pub(crate) fn store(a: &mut [f32; 64], g: usize, voices: usize, x: [f32; 16])
 }
 
 // The lanes' next levels, and u one row on; if they stand still, the last row's levels y.
-pub(crate) fn next_row(
+fn next_row(
     still: bool,
     y: [f32; 16],
     u: &mut [f32; 16],
@@ -84,7 +92,7 @@ fn same_bits(a: f32, b: f32) -> bool
 
 // Whether a step gives each of sixteen lanes back in bits: then every later row is this one. Not
 // asked of few rows.
-pub(crate) fn stands(rows: u32, u: &[f32; 16], r: &[f32; 16], d: &[f32; 16]) -> bool
+fn stands(rows: u32, u: &[f32; 16], r: &[f32; 16], d: &[f32; 16]) -> bool
     ensures { λ s. ⌜ (s ≡ true → Rows.Still (now (u .entry)) (now (r .entry)) (now (d .entry))) ⌝ }
 {
     if rows < STILL_ROWS {

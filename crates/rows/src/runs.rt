@@ -34,6 +34,11 @@ fn at_most(frames: usize) -> u32
     MOST
 }
 
+// What the segments of 64 lanes have left.
+pub struct Lefts {
+    pub left: [u32; 64],
+}
+
 // How many of the next `frames` frames are drawn next: none past the end of a voice's segment.
 pub fn shortest(left: &[u32; 64], voices: usize, frames: usize) -> u32
     ensures length { λ r. ⌜ r ≡ Runs.shortest (min voices 64) (now (left .entry)) (min frames Runs.most) ⌝ }
@@ -63,8 +68,8 @@ fn left_after(left: u32, run: u32) -> u32
 }
 
 // What each voice's segment has left after a run.
-pub fn count_down(left: [u32; 64], voices: usize, run: u32) -> [u32; 64]
-    ensures { λ r. ⌜ Filled 0 (λ v. Runs.leftAfter (getD left v 0) run) 0 (min voices 64) left r ⌝ }
+pub fn count_down(left: [u32; 64], voices: usize, run: u32) -> Lefts
+    ensures { λ r. ⌜ Filled 0 (λ v. Runs.leftAfter (getD left v 0) run) 0 (min voices 64) left (r .left) ⌝ }
 {
     let n = count(voices);
     let mut rest = left;
@@ -73,7 +78,7 @@ pub fn count_down(left: [u32; 64], voices: usize, run: u32) -> [u32; 64]
         rest[v] = left_after(left[v], run);
         v += 1;
     }
-    rest
+    Lefts { left: rest }
 }
 
 // The first voice from `first` on whose segment has ended; else `voices`, or `first` if that is more.

@@ -1,10 +1,10 @@
 use mathlib.Core.Path.{_≡_, refl, sym, ap, _∙_, subst}
-use mathlib.Core.Logic.{_⊎_, inl, inr}
+use mathlib.Core.Logic.{_⊎_, inl}
 use mathlib.Core.List.{List}
 use Prim.Native.Nat.{ℕ, _+_, _*_, _-_, _^_, _≤_, _<_, min}
 use native.Mathlib.Omega.{arith}
 use borrow.Author.Needs.{needs}
-use borrow.Rule.Slice.PartMut.{midOf, putMid, same-len-mid}
+use borrow.Rule.Slice.PartMut.{midOf, putMid}
 use lib.ListN.{length, getD, set}
 use Rattle.timing.specs.declared.Timing.{Timing}
 use Rattle.curve.specs.Segments.{Inside}
@@ -15,7 +15,7 @@ use Rattle.rows.proofs.RowsDrawn.{drawn-whole}
 use Rattle.rows.proofs.WithinRuns.{NextEnded, shortest-few, shortest-some, shortest-inside, next-ended}
 use Rattle.bank.specs.declared.banks.EnvelopeBank.{EnvelopeBank}
 use Rattle.bank.specs.Banks.{blank, voice, size, withTiming, frames}
-use Rattle.bank.proofs.Lanes.{Sized, Lanes, bankOf, putLane, put-sized}
+use Rattle.bank.proofs.Lanes.{Sized, Lanes, bankOf, put-sized}
 use Rattle.bank.proofs.Runs.{ranLane, ran-lanes}
 use Rattle.events.specs.declared.Event.{Event}
 use Rattle.events.specs.declared.Reading.{Reading}
@@ -210,13 +210,13 @@ bounded c =
     omega (arith, played (run-loop c) .long, start-of (loop-of t) .good .1 .0)
 
 abbrev run-of : tie.After-next-ended Inv-loop2 μ-loop2 Inv-loop μ-loop → tie.After-shortest Inv-loop2 μ-loop2 Inv-loop μ-loop
-run-of c = c .before .before .before .before .before .before .before .before .before .before .before
+run-of c = c .before .before .before .before .before .before .before .before .before .before .before .before .before
 
 -- The bank after a run's rows, before anything follows a segment that ended.
 abbrev counted-bank : tie.After-next-ended Inv-loop2 μ-loop2 Inv-loop μ-loop → EnvelopeBank
 counted-bank c =
     let b = bank-now (run-loop (run-of c)) in
-    bankOf (b .voices) (b .timing) (b .lanes) (c .before .before .before .before .before .draw-bytes .result) (b .r) (b .d) (b .scale) (b .base) (c .before .before .count-down .result)
+    bankOf (b .voices) (b .timing) (b .lanes) (c .before .before .before .before .before .before .before .draw-bytes .result .u) (b .r) (b .d) (b .scale) (b .base) (c .before .before .before .count-down .result .left)
 
 abbrev lent : tie.After-next-ended Inv-loop2 μ-loop2 Inv-loop μ-loop → List ℕ
 lent c =
@@ -225,24 +225,24 @@ lent c =
 
 drawn : (c : tie.After-next-ended Inv-loop2 μ-loop2 Inv-loop μ-loop)
     → let b = bank-now (run-loop (run-of c)) in
-    Drawn 0 64 byteCell (groupsOf (size b)) (size b) (run-of c .shortest .result) (b .u) (b .r) (b .d) (b .scale) (b .base) (lent c) (c .before .before .before .before .before .draw-bytes .last .0) (c .before .before .before .before .before .draw-bytes .result)
+    Drawn 0 64 byteCell (groupsOf (size b)) (size b) (run-of c .shortest .result) (b .u) (b .r) (b .d) (b .scale) (b .base) (lent c) (c .before .before .before .before .before .before .before .draw-bytes .last .0) (c .before .before .before .before .before .before .before .draw-bytes .result .u)
 drawn c =
     let b = bank-now (run-loop (run-of c)) in
     let m = run-of c .shortest .result in
-    let few = subst (λ (g : ℕ). m * (64 * g) ≤ length (lent c)) (row-is (run-of c)) (omega (arith, fits (run-of c), c .before .before .before .before .before .before .before .before .before .before .draw-bytes-arg .given)) in
-    drawn-whole 0 64 byteCell (groupsOf (size b)) (size b) m (b .u) (b .r) (b .d) (b .scale) (b .base) (lent c) (c .before .before .before .before .before .draw-bytes .last .0) (c .before .before .before .before .before .draw-bytes .result) few (c .before .before .before .before .before .draw-bytes .ensures)
+    let few = subst (λ (g : ℕ). m * (64 * g) ≤ length (lent c)) (row-is (run-of c)) (omega (arith, fits (run-of c), c .before .before .before .before .before .before .before .before .before .before .before .before .draw-bytes-arg .given)) in
+    drawn-whole 0 64 byteCell (groupsOf (size b)) (size b) m (b .u) (b .r) (b .d) (b .scale) (b .base) (lent c) (c .before .before .before .before .before .before .before .draw-bytes .last .0) (c .before .before .before .before .before .before .before .draw-bytes .result .u) few (c .before .before .before .before .before .before .before .draw-bytes .ensures)
 
 counted-lanes : (c : tie.After-next-ended Inv-loop2 μ-loop2 Inv-loop μ-loop)
     → let b = bank-now (run-loop (run-of c)) in
     Lanes (b .timing) (ranLane (size b) (run-of c .shortest .result) b) b (counted-bank c)
 counted-lanes c =
     let b = bank-now (run-loop (run-of c)) in
-    ran-lanes (size b) (run-of c .shortest .result) b _ _ (run-loop (run-of c) .loop2 .inv .0) (drawn c .moved) (c .before .before .count-down .ensures)
+    ran-lanes (size b) (run-of c .shortest .result) b _ _ (run-loop (run-of c) .loop2 .inv .0) (drawn c .moved) (c .before .before .before .count-down .ensures)
 
-found : (c : tie.After-next-ended Inv-loop2 μ-loop2 Inv-loop μ-loop) → NextEnded (c .before .before .count-down .result) (size (bank-now (run-loop (run-of c)))) 0 (c .next-ended .result)
+found : (c : tie.After-next-ended Inv-loop2 μ-loop2 Inv-loop μ-loop) → NextEnded (c .before .before .before .count-down .result .left) (size (bank-now (run-loop (run-of c)))) 0 (c .next-ended .result)
 found c =
     let n = size (bank-now (run-loop (run-of c))) in
-    subst (λ (v : ℕ). NextEnded (c .before .before .count-down .result) n 0 v) (sym (c .next-ended .ensures)) (next-ended n _ 0 (omega arith))
+    subst (λ (v : ℕ). NextEnded (c .before .before .before .count-down .result .left) n 0 v) (sym (c .next-ended .ensures)) (next-ended n _ 0 (omega arith))
 
 -- The event asks for frames.
 is-frames : (c : tie.After-next-ended Inv-loop2 μ-loop2 Inv-loop μ-loop) → let t = turn-of (run-loop (run-of c)) in event-of t ≡ Event.Frames (turnOf (event-of t) (loop-of t .before .before .before .before .before .before .before .before .before .before .count .result) .frames)
@@ -498,16 +498,16 @@ cast-to c = search needs
 
 mul-to : tie.Need-mul-to Inv-loop2 μ-loop2 Inv-loop μ-loop
 mul-to c =
-    let c₉ = c .before .before .before .before .before .before .before .before .before in
-    record { fits = omega (arith, fits c₉, bounded c₉) }
+    let c₁₁ = c .before .before .before .before .before .before .before .before .before .before .before in
+    record { fits = omega (arith, fits c₁₁, bounded c₁₁) }
 
 add-to : tie.Need-add-to Inv-loop2 μ-loop2 Inv-loop μ-loop
 add-to c =
-    let c₉ = c .before .before .before .before .before .before .before .before .before in
-    record { fits = omega (arith, fits c₉, bounded c₉) }
+    let c₁₁ = c .before .before .before .before .before .before .before .before .before .before .before in
+    record { fits = omega (arith, fits c₁₁, bounded c₁₁) }
 
 sub-rest : tie.Need-sub-rest Inv-loop2 μ-loop2 Inv-loop μ-loop
-sub-rest c = omega (arith, run-is (c .before .before .before .before .before .before .before .before .before) .1)
+sub-rest c = omega (arith, run-is (c .before .before .before .before .before .before .before .before .before .before .before) .1)
 
 next-ended-requires : tie.Need-next-ended-requires Inv-loop2 μ-loop2 Inv-loop μ-loop
 next-ended-requires c κs = search needs
@@ -527,7 +527,7 @@ loop2-again-2 c =
     let m = c₁₀ .shortest .result in
     let g = groupsOf (size b) in
     let n = loop-of t .before .before .before .before .before .before .before .before .before .before .count .ensures in
-    let w = c .before .before .before .before .before .draw-bytes in
+    let w = c .before .before .before .before .before .before .before .draw-bytes in
     let on : l .to + 4 * (m * (16 * g)) ≡ l .to + m * (64 * loop-of t .before .before .before .before .before .before .before .before .before .groups .result) =
     subst (λ (k : ℕ). l .to + 4 * (m * (16 * g)) ≡ l .to + m * (64 * k)) (sym (row-is c₁₀)) (omega arith) in (
       counted-lanes c .sized,
@@ -538,7 +538,7 @@ loop2-again-2 c =
       λ o P.
           let Q = l .inv .5 o P in
           subst (λ (k : ℕ). Played (list-of (loop-of t)) o (putMid (l .to) (length (l .out) - l .to) (l .out) (w .last .0)) (pending (event-of t) (c .next-ended .result) (loop-of t .before .before .before .before .before .before .before .before .before .before .count .result) (c .next-ended .result) (counted-bank c)) (next-of t) k (l .rest - m) (loop-of t .loop .records - 1)) on
-          (drew _ _ _ b _ _ _ _ (settled c₁₀ o Q) m (run-is c₁₀ .1) _ _ (ran c) (run-put b (l .inv .0) m (run-is c₁₀ .3) (l .out) (w .last .0) (l .to) (w .result) (room c₁₀ o Q) (drawn c))),
+          (drew _ _ _ b _ _ _ _ (settled c₁₀ o Q) m (run-is c₁₀ .1) _ _ (ran c) (run-put b (l .inv .0) m (run-is c₁₀ .3) (l .out) (w .last .0) (l .to) (w .result .u) (room c₁₀ o Q) (drawn c))),
     )
 
 same-length-2 : tie.Need-same-length-2 Inv-loop2 μ-loop2 Inv-loop μ-loop

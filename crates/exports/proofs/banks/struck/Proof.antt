@@ -11,8 +11,6 @@ use Rattle.exports.specs.Note as Note
 use Rattle.exports.specs.Take as Take
 use Rattle.exports.proofs.banks.struck.Statement.{statement}
 use Rattle.exports.proofs.banks.struck.Tie as tie
-use Rattle.bank.proofs.banks.EnvelopeBank.new.Reads as banks-EnvelopeBank-new-reads
-use Rattle.timing.proofs.Timing.new.Reads as Timing-new-reads
 
 abbrev answer : ℕ → EnvelopeBank → Answer
 answer n b = record { refusal = n; bank = b }

@@ -1,10 +1,9 @@
-use mathlib.Core.Path.{_≡_, sym, ap, _∙_, subst}
+use mathlib.Core.Path.{sym, ap, _∙_, subst}
 use borrow.Author.Needs.{needs}
 use borrow.Author.Tests.{eqb-true}
 use lib.Dec.{T}
-use lib.Ieee.{binary32, fits, ofBits, toBits}
+use lib.Ieee.{binary32, ofBits}
 use lib.Ieee.Bits.{ofBits-toBits}
-use Prim.Native.Nat.{ℕ}
 use Rattle.rows.proofs.lanes.same_bits.Statement.{statement}
 use Rattle.rows.proofs.lanes.same_bits.Tie as tie
 

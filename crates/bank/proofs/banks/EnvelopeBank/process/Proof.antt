@@ -46,7 +46,7 @@ abbrev μ-loop : tie.MeasureT-loop
 -- ---- places: from what a proof has at hand back to the loops and to the groups of lanes
 
 abbrev run-of : tie.After-next-ended Inv-loop2 μ-loop2 Inv-loop μ-loop → tie.After-shortest Inv-loop2 μ-loop2 Inv-loop μ-loop
-run-of c = c .before .before .before .before .before .before .before .before .before .before .before
+run-of c = c .before .before .before .before .before .before .before .before .before .before .before .before .before
 
 abbrev loop-of : tie.After-shortest Inv-loop2 μ-loop2 Inv-loop μ-loop → tie.At-loop Inv-loop2 μ-loop2 Inv-loop μ-loop
 loop-of c = c .before .before .before
@@ -113,7 +113,7 @@ loop-bank c =
 abbrev counted-bank : tie.After-next-ended Inv-loop2 μ-loop2 Inv-loop μ-loop → EnvelopeBank
 counted-bank c =
     let b = loop-bank (loop-of (run-of c)) in
-    bankOf (b .voices) (b .timing) (b .lanes) (c .before .before .before .before .before .draw .result) (b .r) (b .d) (b .scale) (b .base) (c .before .before .count-down .result)
+    bankOf (b .voices) (b .timing) (b .lanes) (c .before .before .before .before .before .before .before .draw .result .u) (b .r) (b .d) (b .scale) (b .base) (c .before .before .before .count-down .result .left)
 
 -- The part of the output that a run's rows were drawn in.
 abbrev lent : tie.After-next-ended Inv-loop2 μ-loop2 Inv-loop μ-loop → List Float
@@ -124,25 +124,25 @@ lent c =
 
 drew : (c : tie.After-next-ended Inv-loop2 μ-loop2 Inv-loop μ-loop)
     → let b = loop-bank (loop-of (run-of c)) in
-    Drawn nan 16 floatCell (groupsOf (size b)) (size b) (run-of c .shortest .result) (b .u) (b .r) (b .d) (b .scale) (b .base) (lent c) (c .before .before .before .before .before .draw .last .0) (c .before .before .before .before .before .draw .result)
+    Drawn nan 16 floatCell (groupsOf (size b)) (size b) (run-of c .shortest .result) (b .u) (b .r) (b .d) (b .scale) (b .base) (lent c) (c .before .before .before .before .before .before .before .draw .last .0) (c .before .before .before .before .before .before .before .draw .result .u)
 drew c =
     let b = loop-bank (loop-of (run-of c)) in
     let m = run-of c .shortest .result in
-    let fits = subst (λ (s : ℕ). m * s ≤ length (lent c)) (stride-is (groups-of (loop-of (run-of c)))) (omega (arith, room (run-of c), c .before .before .before .before .before .before .before .before .before .before .draw-arg .given)) in
-    drawn-whole nan 16 floatCell (groupsOf (size b)) (size b) m (b .u) (b .r) (b .d) (b .scale) (b .base) (lent c) (c .before .before .before .before .before .draw .last .0) (c .before .before .before .before .before .draw .result) fits (c .before .before .before .before .before .draw .ensures)
+    let fits = subst (λ (s : ℕ). m * s ≤ length (lent c)) (stride-is (groups-of (loop-of (run-of c)))) (omega (arith, room (run-of c), c .before .before .before .before .before .before .before .before .before .before .before .before .draw-arg .given)) in
+    drawn-whole nan 16 floatCell (groupsOf (size b)) (size b) m (b .u) (b .r) (b .d) (b .scale) (b .base) (lent c) (c .before .before .before .before .before .before .before .draw .last .0) (c .before .before .before .before .before .before .before .draw .result .u) fits (c .before .before .before .before .before .before .before .draw .ensures)
 
 counted-lanes : (c : tie.After-next-ended Inv-loop2 μ-loop2 Inv-loop μ-loop)
     → let b = loop-bank (loop-of (run-of c)) in
     Lanes (b .timing) (ranLane (size b) (run-of c .shortest .result) b) b (counted-bank c)
 counted-lanes c =
     let l = loop-of (run-of c) in
-    ran-lanes (size (loop-bank l)) (run-of c .shortest .result) (loop-bank l) _ _ (l .loop .inv .4 .lanes .sized) (drew c .moved) (c .before .before .count-down .ensures)
+    ran-lanes (size (loop-bank l)) (run-of c .shortest .result) (loop-bank l) _ _ (l .loop .inv .4 .lanes .sized) (drew c .moved) (c .before .before .before .count-down .ensures)
 
 -- The next voice whose segment has ended.
 found : (c : tie.After-next-ended Inv-loop2 μ-loop2 Inv-loop μ-loop)
-    → NextEnded (c .before .before .count-down .result) (size (loop-bank (loop-of (run-of c)))) 0 (c .next-ended .result)
+    → NextEnded (c .before .before .before .count-down .result .left) (size (loop-bank (loop-of (run-of c)))) 0 (c .next-ended .result)
 found c =
-    subst (λ (v : ℕ). NextEnded (c .before .before .count-down .result) (size (loop-bank (loop-of (run-of c)))) 0 v) (sym (c .next-ended .ensures))
+    subst (λ (v : ℕ). NextEnded (c .before .before .before .count-down .result .left) (size (loop-bank (loop-of (run-of c)))) 0 v) (sym (c .next-ended .ensures))
     (next-ended _ _ 0 (omega arith))
 
 found-next : (c : tie.After-next-ended2 Inv-loop2 μ-loop2 Inv-loop μ-loop)
@@ -159,10 +159,10 @@ found-next c =
 rows-drawn : (c : tie.After-next-ended Inv-loop2 μ-loop2 Inv-loop μ-loop)
     → let b = loop-bank (loop-of (run-of c)) in
     let s = 16 * groups-of (loop-of (run-of c)) .groups .result in
-    (k i : ℕ) → k < run-of c .shortest .result → i < s → getD (c .before .before .before .before .before .draw .last .0) (k * s + i) nan ≡ laneAt (size b) k (b .u) (b .r) (b .d) (b .scale) (b .base) i
+    (k i : ℕ) → k < run-of c .shortest .result → i < s → getD (c .before .before .before .before .before .before .before .draw .last .0) (k * s + i) nan ≡ laneAt (size b) k (b .u) (b .r) (b .d) (b .scale) (b .base) i
 rows-drawn c =
     let b = loop-bank (loop-of (run-of c)) in
-    subst (λ (s : ℕ). (k i : ℕ) → k < run-of c .shortest .result → i < s → getD (c .before .before .before .before .before .draw .last .0) (k * s + i) nan ≡ laneAt (size b) k (b .u) (b .r) (b .d) (b .scale) (b .base) i)
+    subst (λ (s : ℕ). (k i : ℕ) → k < run-of c .shortest .result → i < s → getD (c .before .before .before .before .before .before .before .draw .last .0) (k * s + i) nan ≡ laneAt (size b) k (b .u) (b .r) (b .d) (b .scale) (b .base) i)
     (sym (stride-is (groups-of (loop-of (run-of c))))) (drew c .levels)
 
 small : (c : tie.In-loop2 Inv-loop2 μ-loop2 Inv-loop μ-loop) → c .before .loop2 .v < 64
@@ -388,7 +388,7 @@ loop-again c =
     let i = c .before .loop2 in
     let s = 16 * g .groups .result in
     let run = c₁₃ .shortest .result in
-    let drawn = c₂ .before .before .before .before .before .draw in
+    let drawn = c₂ .before .before .before .before .before .before .before .draw in
     let r = room c₁₃ in
     let b₁ = counted-bank c₂ in
     let b = loop-bank (loop-of c₁₃) in

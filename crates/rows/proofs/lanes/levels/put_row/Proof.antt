@@ -7,8 +7,8 @@ use lib.ListN.{length, getD}
 use Rattle.envelope.specs.Parts.{Filled}
 use Rattle.envelope.proofs.Fill.{filled-none, filled-more}
 use Rattle.rows.specs.Rows.{floatCell}
-use Rattle.rows.proofs.levels.put_row.Statement.{statement}
-use Rattle.rows.proofs.levels.put_row.Tie as tie
+use Rattle.rows.proofs.lanes.levels.put_row.Statement.{statement}
+use Rattle.rows.proofs.lanes.levels.put_row.Tie as tie
 
 abbrev Inv-loop : tie.InvT-loop
 Inv-loop row₀ y i₀ row i = (i ≤ 16) × (length row ≡ length row₀) × Filled nan (floatCell (λ j. getD y j nan)) 0 i row₀ row

@@ -1,16 +1,16 @@
 use mathlib.Core.Path.{_≡_, ap, _∙_, subst}
-use Prim.Native.Nat.{ℕ, _+_, _*_, _-_, _≤_}
+use Prim.Native.Nat.{ℕ, _*_, _-_, _≤_}
 use native.Mathlib.Omega.{arith}
 use borrow.Author.Needs.{needs}
-use lib.Ieee.{nan, binary32, toBits}
+use lib.Ieee.{nan}
 use lib.ListN.{length, getD}
 use Rattle.envelope.specs.Parts.{Filled}
 use Rattle.envelope.proofs.Fill.{filled-none}
 use lib.Seq.{sets}
 use Rattle.rows.specs.Rows.{lowestFirst, byteCell}
 use Rattle.rows.proofs.Places.{bytes-more}
-use Rattle.rows.proofs.bytes.put_row.Statement.{statement}
-use Rattle.rows.proofs.bytes.put_row.Tie as tie
+use Rattle.rows.proofs.lanes.bytes.put_row.Statement.{statement}
+use Rattle.rows.proofs.lanes.bytes.put_row.Tie as tie
 
 abbrev Inv-loop : tie.InvT-loop
 Inv-loop row₀ y i₀ row i = (i ≤ 16) × (length row ≡ length row₀) × Filled 0 (byteCell (λ j. getD y j nan)) 0 (4 * i) row₀ row

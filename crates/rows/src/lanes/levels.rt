@@ -1,11 +1,11 @@
 // Rows drawn into floats.
-ghost use mathlib.Core.Path.{_≡_};
 ghost use Prim.Native.Nat.{_+_, _*_, _≤_, min};
 ghost use lib.Ieee.{nan};
 ghost use lib.ListN.{length, getD};
 ghost use Rattle.envelope.specs.Parts.{Filled};
 ghost use Rattle.rows.specs.Rows as Rows;
 ghost use Rattle.rows.specs.Strides as Strides;
+use crate::lanes::Moved;
 use crate::lanes::load;
 use crate::lanes::next_row;
 use crate::lanes::stands;
@@ -65,15 +65,15 @@ pub fn draw(
     d: &[f32; 64],
     scale: &[f32; 64],
     base: &[f32; 64],
-) -> [f32; 64]
-    ensures { λ next. ⌜ Rows.Drawn nan 16 Rows.floatCell (Strides.groupsOf (min voices 64)) (min voices 64) (Rows.fitting rows (16 * Strides.groupsOf (min voices 64)) (length (now (out .entry)))) u (now (r .entry)) (now (d .entry)) (now (scale .entry)) (now (base .entry)) (now (out .entry)) (now (out .exit)) next ⌝ }
+) -> Moved
+    ensures { λ next. ⌜ Rows.Drawn nan 16 Rows.floatCell (Strides.groupsOf (min voices 64)) (min voices 64) (Rows.fitting rows (16 * Strides.groupsOf (min voices 64)) (length (now (out .entry)))) u (now (r .entry)) (now (d .entry)) (now (scale .entry)) (now (base .entry)) (now (out .entry)) (now (out .exit)) (next .u) ⌝ }
 {
     let n = count(voices);
     let groups = groups(voices);
     let stride = 16 * groups;
     let mut next = u;
     if rows as usize * stride > out.len() {
-        return next;
+        return Moved { u: next };
     }
     let mut q = 0;
     while q < groups {
@@ -92,5 +92,5 @@ pub fn draw(
         store(&mut next, g, n, after);
         q += 1;
     }
-    next
+    Moved { u: next }
 }

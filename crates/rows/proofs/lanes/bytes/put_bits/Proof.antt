@@ -2,8 +2,8 @@ use native.Mathlib.Omega.{arith}
 use native.Mathlib.Numerals.{unary-clauses}
 use lib.ListN.{length-set}
 use borrow.Author.Needs.{needs}
-use Rattle.rows.proofs.bytes.put_bits.Statement.{statement}
-use Rattle.rows.proofs.bytes.put_bits.Tie as tie
+use Rattle.rows.proofs.lanes.bytes.put_bits.Statement.{statement}
+use Rattle.rows.proofs.lanes.bytes.put_bits.Tie as tie
 
 cast-out : tie.Need-cast-out
 cast-out c = search needs

@@ -1,17 +1,17 @@
 use mathlib.Core.Path.{_≡_, _∙_, subst}
 use mathlib.Core.Bool.{true}
-use Prim.Native.Nat.{ℕ, _+_, _-_, _*_, _≤_, _<_}
+use Prim.Native.Nat.{ℕ, _+_, _-_, _*_, _≤_}
 use native.Mathlib.Omega.{arith}
 use native.Mathlib.Numerals.{add-one}
 use native.Mathlib.Nat.{suc-mul}
 use borrow.Author.Needs.{needs}
 use lib.Ieee.{nan}
-use lib.ListN.{length, getD}
+use lib.ListN.{length}
 use Rattle.rows.specs.Rows.{floatCell, Still, GroupDrawn}
 use Rattle.rows.proofs.RowsDrawn.{LastRow, row-fits, row-levels, row-moved, row-kept, group-none, group-next}
 use Rattle.rows.proofs.Places.{float-told}
-use Rattle.rows.proofs.levels.draw_group.Statement.{statement}
-use Rattle.rows.proofs.levels.draw_group.Tie as tie
+use Rattle.rows.proofs.lanes.levels.draw_group.Statement.{statement}
+use Rattle.rows.proofs.lanes.levels.draw_group.Tie as tie
 
 abbrev Inv-loop : tie.InvT-loop
 Inv-loop out₀ g stride rows r d scale base u₀ y₀ still at₀ k₀ out u y at k =

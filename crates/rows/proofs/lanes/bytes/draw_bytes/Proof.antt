@@ -3,13 +3,12 @@ use Prim.Native.Nat.{ℕ, _-_, _*_, _≤_}
 use native.Mathlib.Omega.{arith}
 use native.Mathlib.Nat.{mul-le-mul-left}
 use borrow.Author.Needs.{needs}
-use lib.Ieee.{nan}
 use lib.ListN.{length}
 use Rattle.rows.specs.Rows.{byteCell}
 use Rattle.rows.proofs.GroupsDrawn.{GroupsDrawn, groups-none, groups-more, groups-all, drawn-fitting, drawn-none}
 use Rattle.rows.proofs.Places.{byte-told, byte-shifts}
-use Rattle.rows.proofs.bytes.draw_bytes.Statement.{statement}
-use Rattle.rows.proofs.bytes.draw_bytes.Tie as tie
+use Rattle.rows.proofs.lanes.bytes.draw_bytes.Statement.{statement}
+use Rattle.rows.proofs.lanes.bytes.draw_bytes.Tie as tie
 
 abbrev Inv-loop : tie.InvT-loop
 Inv-loop out₀ voices rows r d scale base n groups stride next₀ q₀ out next q =

@@ -7,6 +7,7 @@ ghost use lib.Seq.{sets};
 ghost use Rattle.envelope.specs.Parts.{Filled};
 ghost use Rattle.rows.specs.Rows as Rows;
 ghost use Rattle.rows.specs.Strides as Strides;
+use crate::lanes::Moved;
 use crate::lanes::load;
 use crate::lanes::next_row;
 use crate::lanes::stands;
@@ -77,15 +78,15 @@ pub fn draw_bytes(
     d: &[f32; 64],
     scale: &[f32; 64],
     base: &[f32; 64],
-) -> [f32; 64]
-    ensures { λ next. ⌜ Rows.Drawn 0 64 Rows.byteCell (Strides.groupsOf (min voices 64)) (min voices 64) (Rows.fitting rows (64 * Strides.groupsOf (min voices 64)) (length (now (out .entry)))) u (now (r .entry)) (now (d .entry)) (now (scale .entry)) (now (base .entry)) (now (out .entry)) (now (out .exit)) next ⌝ }
+) -> Moved
+    ensures { λ next. ⌜ Rows.Drawn 0 64 Rows.byteCell (Strides.groupsOf (min voices 64)) (min voices 64) (Rows.fitting rows (64 * Strides.groupsOf (min voices 64)) (length (now (out .entry)))) u (now (r .entry)) (now (d .entry)) (now (scale .entry)) (now (base .entry)) (now (out .entry)) (now (out .exit)) (next .u) ⌝ }
 {
     let n = count(voices);
     let groups = groups(voices);
     let stride = 64 * groups;
     let mut next = u;
     if rows as usize * stride > out.len() {
-        return next;
+        return Moved { u: next };
     }
     let mut q = 0;
     while q < groups {
@@ -104,5 +105,5 @@ pub fn draw_bytes(
         store(&mut next, g, n, after);
         q += 1;
     }
-    next
+    Moved { u: next }
 }

@@ -8,8 +8,8 @@ use lib.ListN.{length}
 use Rattle.rows.specs.Rows.{floatCell}
 use Rattle.rows.proofs.GroupsDrawn.{GroupsDrawn, groups-none, groups-more, groups-all, drawn-fitting, drawn-none}
 use Rattle.rows.proofs.Places.{float-told, float-shifts}
-use Rattle.rows.proofs.levels.draw.Statement.{statement}
-use Rattle.rows.proofs.levels.draw.Tie as tie
+use Rattle.rows.proofs.lanes.levels.draw.Statement.{statement}
+use Rattle.rows.proofs.lanes.levels.draw.Tie as tie
 
 abbrev Inv-loop : tie.InvT-loop
 Inv-loop out₀ voices rows r d scale base n groups stride next₀ q₀ out next q =
