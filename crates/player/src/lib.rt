@@ -13,6 +13,10 @@ use events::Reading;
 use lane::Voice;
 use settings::ACCEPTED;
 
+// The rows of a group of lanes that are drawn before the next group: so few that what was drawn of a
+// row is still in the cache.
+const BLOCK: usize = 128;
+
 // Plays a list that is accepted. The bank is opened once, by the first record, and its arrays stay
 // where they are: each turn stores the voices that an event changes, or draws a run of the frames that
 // it asks for, after which the voices whose segment has ended change. All of it is one function, since
@@ -31,7 +35,9 @@ fn play(list: &[u8], out: &mut [u8])
     let bank = turns::opened(opening);
     let voices = bank.voices;
     let count = rows::count(voices);
-    let row = 64 * rows::groups(voices);
+    let groups = rows::groups(voices);
+    let row = 64 * groups;
+    let most = BLOCK / groups;
     let mut timing = bank.timing;
     let mut lanes = bank.lanes;
     let mut u = bank.u;
@@ -86,7 +92,7 @@ fn play(list: &[u8], out: &mut [u8])
             if rest == 0 {
                 break;
             }
-            let run = rows::shortest(&left, voices, rest as usize);
+            let run = rows::shortest(&left, voices, turns::least(rest as usize, most));
             u = rows::draw_bytes(&mut out[to..], voices, run, u, &r, &d, &scale, &base).u;
             left = rows::count_down(left, voices, run).left;
             to += run as usize * row;

@@ -1,5 +1,6 @@
 // What is done for each event: the bank is opened, a span of voices is changed, or frames are drawn.
 ghost use mathlib.Core.Path.{_≡_};
+ghost use Prim.Native.Nat.{min};
 ghost use Rattle.bank.specs.Parts as Banks;
 ghost use Rattle.player.specs.Parts as Parts;
 ghost use Rattle.player.specs.Playing as Playing;
@@ -157,6 +158,15 @@ pub(crate) fn changed(voice: Voice, timing: Timing, event: Event) -> Voice
         Event::Join { voice: _, from: _ } => voice,
         Event::Frames(_) => followed(voice, timing),
     }
+}
+
+pub(crate) fn least(a: usize, b: usize) -> usize
+    ensures { λ r. ⌜ r ≡ min a b ⌝ }
+{
+    if a < b {
+        return a;
+    }
+    b
 }
 
 // The voice to change after the one before v: v, or of frames the next whose segment has ended.

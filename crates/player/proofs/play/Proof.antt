@@ -1,8 +1,9 @@
 use mathlib.Core.Path.{_≡_, refl, sym, ap, _∙_, subst}
 use mathlib.Core.Logic.{_⊎_, inl}
 use mathlib.Core.List.{List}
-use Prim.Native.Nat.{ℕ, _+_, _*_, _-_, _^_, _≤_, _<_, min}
+use Prim.Native.Nat.{ℕ, _+_, _*_, _-_, _/_, _^_, _≤_, _<_, min}
 use native.Mathlib.Omega.{arith}
+use native.Mathlib.Nat.{le-div-iff-mul-le}
 use borrow.Author.Needs.{needs}
 use borrow.Rule.Slice.PartMut.{midOf, putMid}
 use lib.ListN.{length, getD, set}
@@ -31,7 +32,7 @@ use Rattle.player.proofs.play.Statement.{statement}
 use Rattle.player.proofs.play.Tie as tie
 
 abbrev Inv-loop2 : tie.InvT-loop2
-Inv-loop2 list out₀ second voices count row timing lanes₀ u₀ r₀ d₀ scale₀ base₀ left₀ at to₀ records event next turn v₀ last₀ from₀ rest₀ out lanes u r d scale base left to v last from rest =
+Inv-loop2 list out₀ second voices count groups row most timing lanes₀ u₀ r₀ d₀ scale₀ base₀ left₀ at to₀ records event next turn v₀ last₀ from₀ rest₀ out lanes u r d scale base left to v last from rest =
     let b = bankOf voices timing lanes u r d scale base left in
     let b₀ = bankOf voices timing lanes₀ u₀ r₀ d₀ scale₀ base₀ left₀ in
     Sized b
@@ -42,13 +43,13 @@ Inv-loop2 list out₀ second voices count row timing lanes₀ u₀ r₀ d₀ sca
     × ((o : List ℕ) → Played list o out₀ (pending event v₀ last₀ from₀ b₀) at to₀ rest₀ records → Played list o out (pending event v last from b) at to rest records)
 
 abbrev μ-loop2 : tie.MeasureT-loop2
-μ-loop2 list out₀ second voices count row timing lanes₀ u₀ r₀ d₀ scale₀ base₀ left₀ at to₀ records event next turn v₀ last₀ from₀ rest₀ out lanes u r d scale base left to v last from rest = rest * 65 + (last - v)
+μ-loop2 list out₀ second voices count groups row most timing lanes₀ u₀ r₀ d₀ scale₀ base₀ left₀ at to₀ records event next turn v₀ last₀ from₀ rest₀ out lanes u r d scale base left to v last from rest = rest * 65 + (last - v)
 
 abbrev Inv-loop : tie.InvT-loop
-Inv-loop list out₀ second voices count row timing₀ lanes₀ u₀ r₀ d₀ scale₀ base₀ left₀ at₀ to₀ records₀ out timing lanes u r d scale base left at to records = Played list out₀ out (bankOf voices timing lanes u r d scale base left) at to 0 records × (at ≡ 0 → ⊥)
+Inv-loop list out₀ second voices count groups row most timing₀ lanes₀ u₀ r₀ d₀ scale₀ base₀ left₀ at₀ to₀ records₀ out timing lanes u r d scale base left at to records = Played list out₀ out (bankOf voices timing lanes u r d scale base left) at to 0 records × (at ≡ 0 → ⊥)
 
 abbrev μ-loop : tie.MeasureT-loop
-μ-loop list out₀ second voices count row timing₀ lanes₀ u₀ r₀ d₀ scale₀ base₀ left₀ at₀ to₀ records₀ out timing lanes u r d scale base left at to records = records
+μ-loop list out₀ second voices count groups row most timing₀ lanes₀ u₀ r₀ d₀ scale₀ base₀ left₀ at₀ to₀ records₀ out timing lanes u r d scale base left at to records = records
 
 -- ---- places: from a turn back to the loop over the records and to the start
 
@@ -153,7 +154,7 @@ step c =
 -- ---- a run
 
 abbrev run-loop : tie.After-shortest Inv-loop2 μ-loop2 Inv-loop μ-loop → tie.At-loop2 Inv-loop2 μ-loop2 Inv-loop μ-loop
-run-loop c = c .before .before .before .before
+run-loop c = c .before .before .before .before .before
 
 -- Nothing is pending.
 settled : (c : tie.After-shortest Inv-loop2 μ-loop2 Inv-loop μ-loop) (o : List ℕ)
@@ -165,21 +166,26 @@ settled c o P =
     let l = run-loop c .loop2 in
     let t = turn-of (run-loop c) in
     subst (λ (b : EnvelopeBank). Played (list-of (loop-of t)) o (l .out) b (next-of t) (l .to) (l .rest) (loop-of t .loop .records - 1))
-    (pending-none (event-of t) (l .v) (l .last) (l .from) (bank-now (run-loop c)) (l .inv .0) (omega (arith, c .before .before .before .if1 .left))) P
+    (pending-none (event-of t) (l .v) (l .last) (l .from) (bank-now (run-loop c)) (l .inv .0) (omega (arith, c .before .before .before .before .if1 .left))) P
 
 run-is : (c : tie.After-shortest Inv-loop2 μ-loop2 Inv-loop μ-loop)
     → let l = run-loop c .loop2 in
     let m = c .shortest .result in
-    (1 ≤ m) × (m ≤ l .rest) × (m ≤ 256) × ((v : ℕ) → v < size (bank-now (run-loop c)) → Inside m (getD (l .left) v 0))
+    (1 ≤ m) × (m ≤ l .rest) × ((v : ℕ) → v < size (bank-now (run-loop c)) → Inside m (getD (l .left) v 0))
 run-is c =
     let l = run-loop c .loop2 in
     let n = size (bank-now (run-loop c)) in
     let e = c .shortest .ensures .0 in
-    let k = c .before .before .if2 .left in
-    let most = min (l .rest) Runs.most in (
-      omega (arith, e, shortest-some n (l .left) most (omega (arith, k))),
-      omega (arith, e, shortest-few n (l .left) most),
-      omega (arith, e, shortest-few n (l .left) most),
+    let k = c .before .before .before .if2 .left in
+    let g = loop-of (turn-of (run-loop c)) .before .before .before .before .before .before .before .before .before in
+    let e₁ = g .groups .ensures in
+    let some : 1 ≤ g .groups .result = omega (arith, e₁) in
+    let few : 1 * g .groups .result ≤ 128 = omega (arith, e₁) in
+    let block : 1 ≤ 128 / g .groups .result = le-div-iff-mul-le some .1 few in
+    let least = c .before .least .ensures in
+    let most = min (c .before .least .result) Runs.most in (
+      omega (arith, e, shortest-some n (l .left) most (omega (arith, k, least, block))),
+      omega (arith, e, least, shortest-few n (l .left) most),
       λ v h. (c .shortest .ensures .1 v h, λ d. omega (arith, e, shortest-inside n (l .left) most v h)),
     )
 
@@ -249,7 +255,7 @@ is-frames : (c : tie.After-next-ended Inv-loop2 μ-loop2 Inv-loop μ-loop) → l
 is-frames c =
     let t = turn-of (run-loop (run-of c)) in
     let e = ap (λ (x : Turn). x .frames) (t .turn-of .ensures) in
-    let k = run-of c .before .before .if2 .left in
+    let k = run-of c .before .before .before .if2 .left in
     frames-event (event-of t) (loop-of t .before .before .before .before .before .before .before .before .before .before .count .result) (omega (arith, e, k, run-loop (run-of c) .loop2 .inv .4))
 
 -- What is pending after a run are its frames.
@@ -263,7 +269,7 @@ ran c =
     let k = turnOf (event-of t) (loop-of t .before .before .before .before .before .before .before .before .before .before .count .result) .frames in
     ap (λ (e : Event). pending e v (loop-of t .before .before .before .before .before .before .before .before .before .before .count .result) v (counted-bank c)) (is-frames c)
     ∙ ap (λ (n : ℕ). pending (Event.Frames k) v n v (counted-bank c)) (loop-of t .before .before .before .before .before .before .before .before .before .before .count .ensures)
-    ∙ pending-run k b (counted-bank c) (run-of c .shortest .result) v (run-loop (run-of c) .loop2 .inv .0) (run-is (run-of c) .0) (run-is (run-of c) .3) (counted-lanes c) (found c .high) (found c .passed)
+    ∙ pending-run k b (counted-bank c) (run-of c .shortest .result) v (run-loop (run-of c) .loop2 .inv .0) (run-is (run-of c) .0) (run-is (run-of c) .2) (counted-lanes c) (found c .high) (found c .passed)
 
 -- ---- the needs
 
@@ -294,6 +300,9 @@ groups-requires c κs = search needs
 
 mul-row : tie.Need-mul-row Inv-loop2 μ-loop2 Inv-loop μ-loop
 mul-row c = record { fits = omega (arith, c .groups .ensures) }
+
+div-most : tie.Need-div-most Inv-loop2 μ-loop2 Inv-loop μ-loop
+div-most c = omega (arith, c .groups .ensures)
 
 sub-records : tie.Need-sub-records Inv-loop2 μ-loop2 Inv-loop μ-loop
 sub-records c =
@@ -345,41 +354,41 @@ mul-lane c = record { fits = omega (arith, from-there (c)) }
 array-copy-out-lane : tie.Need-array-copy-out-lane Inv-loop2 μ-loop2 Inv-loop μ-loop
 array-copy-out-lane c = from-there c
 
-mul-t38 : tie.Need-mul-t38 Inv-loop2 μ-loop2 Inv-loop μ-loop
-mul-t38 c = record { fits = omega (arith, from-there (c .before)) }
+mul-t40 : tie.Need-mul-t40 Inv-loop2 μ-loop2 Inv-loop μ-loop
+mul-t40 c = record { fits = omega (arith, from-there (c .before)) }
 
-array-read-t44 : tie.Need-array-read-t44 Inv-loop2 μ-loop2 Inv-loop μ-loop
-array-read-t44 c = from-there (c .before)
+array-read-t46 : tie.Need-array-read-t46 Inv-loop2 μ-loop2 Inv-loop μ-loop
+array-read-t46 c = from-there (c .before)
 
-mul-t45 : tie.Need-mul-t45 Inv-loop2 μ-loop2 Inv-loop μ-loop
-mul-t45 c = record { fits = omega (arith, from-there (c .before)) }
+mul-t47 : tie.Need-mul-t47 Inv-loop2 μ-loop2 Inv-loop μ-loop
+mul-t47 c = record { fits = omega (arith, from-there (c .before)) }
 
-array-read-t48 : tie.Need-array-read-t48 Inv-loop2 μ-loop2 Inv-loop μ-loop
-array-read-t48 c = from-there (c .before)
+array-read-t50 : tie.Need-array-read-t50 Inv-loop2 μ-loop2 Inv-loop μ-loop
+array-read-t50 c = from-there (c .before)
 
-mul-t49 : tie.Need-mul-t49 Inv-loop2 μ-loop2 Inv-loop μ-loop
-mul-t49 c = record { fits = omega (arith, from-there (c .before)) }
+mul-t51 : tie.Need-mul-t51 Inv-loop2 μ-loop2 Inv-loop μ-loop
+mul-t51 c = record { fits = omega (arith, from-there (c .before)) }
 
-array-read-t52 : tie.Need-array-read-t52 Inv-loop2 μ-loop2 Inv-loop μ-loop
-array-read-t52 c = from-there (c .before)
+array-read-t54 : tie.Need-array-read-t54 Inv-loop2 μ-loop2 Inv-loop μ-loop
+array-read-t54 c = from-there (c .before)
 
-mul-t53 : tie.Need-mul-t53 Inv-loop2 μ-loop2 Inv-loop μ-loop
-mul-t53 c = record { fits = omega (arith, from-there (c .before)) }
+mul-t55 : tie.Need-mul-t55 Inv-loop2 μ-loop2 Inv-loop μ-loop
+mul-t55 c = record { fits = omega (arith, from-there (c .before)) }
 
-array-read-t56 : tie.Need-array-read-t56 Inv-loop2 μ-loop2 Inv-loop μ-loop
-array-read-t56 c = from-there (c .before)
+array-read-t58 : tie.Need-array-read-t58 Inv-loop2 μ-loop2 Inv-loop μ-loop
+array-read-t58 c = from-there (c .before)
 
-mul-t57 : tie.Need-mul-t57 Inv-loop2 μ-loop2 Inv-loop μ-loop
-mul-t57 c = record { fits = omega (arith, from-there (c .before)) }
+mul-t59 : tie.Need-mul-t59 Inv-loop2 μ-loop2 Inv-loop μ-loop
+mul-t59 c = record { fits = omega (arith, from-there (c .before)) }
 
-array-read-t60 : tie.Need-array-read-t60 Inv-loop2 μ-loop2 Inv-loop μ-loop
-array-read-t60 c = from-there (c .before)
+array-read-t62 : tie.Need-array-read-t62 Inv-loop2 μ-loop2 Inv-loop μ-loop
+array-read-t62 c = from-there (c .before)
 
-mul-t61 : tie.Need-mul-t61 Inv-loop2 μ-loop2 Inv-loop μ-loop
-mul-t61 c = record { fits = omega (arith, from-there (c .before)) }
+mul-t63 : tie.Need-mul-t63 Inv-loop2 μ-loop2 Inv-loop μ-loop
+mul-t63 c = record { fits = omega (arith, from-there (c .before)) }
 
-array-read-t64 : tie.Need-array-read-t64 Inv-loop2 μ-loop2 Inv-loop μ-loop
-array-read-t64 c = from-there (c .before)
+array-read-t66 : tie.Need-array-read-t66 Inv-loop2 μ-loop2 Inv-loop μ-loop
+array-read-t66 c = from-there (c .before)
 
 changed-requires : tie.Need-changed-requires Inv-loop2 μ-loop2 Inv-loop μ-loop
 changed-requires c κs = search needs
@@ -472,8 +481,11 @@ loop-again c =
       later-place (list-of (loop-of t)) _ (event-of t) (next-of t) (is-record t),
     )
 
-cast-shortest : tie.Need-cast-shortest Inv-loop2 μ-loop2 Inv-loop μ-loop
-cast-shortest c = search needs
+cast-least : tie.Need-cast-least Inv-loop2 μ-loop2 Inv-loop μ-loop
+cast-least c = search needs
+
+least-requires : tie.Need-least-requires Inv-loop2 μ-loop2 Inv-loop μ-loop
+least-requires c κs = search needs
 
 shortest-requires : tie.Need-shortest-requires Inv-loop2 μ-loop2 Inv-loop μ-loop
 shortest-requires c κs = search needs
@@ -538,7 +550,7 @@ loop2-again-2 c =
       λ o P.
           let Q = l .inv .5 o P in
           subst (λ (k : ℕ). Played (list-of (loop-of t)) o (putMid (l .to) (length (l .out) - l .to) (l .out) (w .last .0)) (pending (event-of t) (c .next-ended .result) (loop-of t .before .before .before .before .before .before .before .before .before .before .count .result) (c .next-ended .result) (counted-bank c)) (next-of t) k (l .rest - m) (loop-of t .loop .records - 1)) on
-          (drew _ _ _ b _ _ _ _ (settled c₁₀ o Q) m (run-is c₁₀ .1) _ _ (ran c) (run-put b (l .inv .0) m (run-is c₁₀ .3) (l .out) (w .last .0) (l .to) (w .result .u) (room c₁₀ o Q) (drawn c))),
+          (drew _ _ _ b _ _ _ _ (settled c₁₀ o Q) m (run-is c₁₀ .1) _ _ (ran c) (run-put b (l .inv .0) m (run-is c₁₀ .2) (l .out) (w .last .0) (l .to) (w .result .u) (room c₁₀ o Q) (drawn c))),
     )
 
 same-length-2 : tie.Need-same-length-2 Inv-loop2 μ-loop2 Inv-loop μ-loop
@@ -565,6 +577,7 @@ play-spec =
     count-requires
     groups-requires
     mul-row
+    div-most
     sub-records
     loop-holds
     sub-records-2
@@ -578,18 +591,18 @@ play-spec =
     loop2-holds
     mul-lane
     array-copy-out-lane
-    mul-t38
-    array-read-t44
-    mul-t45
-    array-read-t48
-    mul-t49
-    array-read-t52
-    mul-t53
-    array-read-t56
-    mul-t57
-    array-read-t60
-    mul-t61
-    array-read-t64
+    mul-t40
+    array-read-t46
+    mul-t47
+    array-read-t50
+    mul-t51
+    array-read-t54
+    mul-t55
+    array-read-t58
+    mul-t59
+    array-read-t62
+    mul-t63
+    array-read-t66
     changed-requires
     mul-lanes
     array-set-from-lanes
@@ -611,7 +624,8 @@ play-spec =
     loop2-again
     loop-less
     loop-again
-    cast-shortest
+    cast-least
+    least-requires
     shortest-requires
     sub-draw-bytes
     part-draw-bytes-start
