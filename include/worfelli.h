@@ -3,7 +3,7 @@
  *     rt staticlib player
  *     gcc -std=c99 -O2 host.c target/staticlib/libplayer.a
  *
- * x86-64 Linux, System V calling convention. examples/host.c is a whole host.
+ * x86-64 Linux, System V calling convention. hosts/c/host.c is a whole host.
  *
  * A list is a whole take. Nothing is kept between calls: each begins with a fresh bank.
  *

@@ -6,7 +6,7 @@
 #include <stdlib.h>
 #include <string.h>
 
-#include "../include/worfelli.h"
+#include "../../include/worfelli.h"
 
 /* This program's own: the player has no limit on a list's length or an output's. */
 #define MAX_LIST ((size_t)1 << 20)

@@ -1,0 +1,176 @@
+"""The command line."""
+
+import argparse
+import sys
+from pathlib import Path
+
+from lists import engine, floats, plot, records, text
+
+ABOUT = """\
+Worfelli's event lists for people: play one, write it as text and back, and draw its levels.
+A file whose name ends in .list holds a list's bytes (docs/FORMAT.md), any other one its text (docs/TEXT.md).
+"""
+
+# What the program play holds, in levels.
+PLAYED = 16384
+MOST_LEVELS = 1 << 24
+
+
+class Wrong(Exception):
+    """What went wrong, in one line."""
+
+
+def main(given):
+    """Runs the command. Its status: 0 done, 1 refused or wrong, 2 no such command."""
+    arguments = _arguments().parse_args(given)
+    try:
+        arguments.run(arguments)
+        sys.stdout.flush()
+    except (Wrong, engine.EngineError) as wrong:
+        print(f"worfelli: {wrong}", file=sys.stderr)
+        return 1
+    except BrokenPipeError:
+        # Who reads has seen enough, as in `worfelli play LIST | head`.
+        sys.stderr.close()
+        return 1
+    return 0
+
+
+def _arguments():
+    parser = argparse.ArgumentParser(
+        prog="worfelli", description=ABOUT, formatter_class=argparse.RawDescriptionHelpFormatter
+    )
+    commands = parser.add_subparsers(required=True, metavar="COMMAND")
+    play = commands.add_parser("play", help="play a list and show its levels")
+    play.add_argument("file", metavar="FILE", type=Path)
+    play.add_argument("--bits", action="store_true", help="print each level's bits, as the program play does")
+    play.set_defaults(run=_play)
+    write = commands.add_parser("write", help="write a text as a list")
+    write.add_argument("file", metavar="TEXT", type=Path)
+    write.add_argument("to", metavar="LIST", type=Path)
+    write.set_defaults(run=_write)
+    read = commands.add_parser("read", help="show a list as text")
+    read.add_argument("file", metavar="LIST", type=Path)
+    read.set_defaults(run=_read)
+    drawn = commands.add_parser("plot", help="draw the levels and stages of a list's voices as an SVG")
+    drawn.add_argument("file", metavar="FILE", type=Path)
+    drawn.add_argument("to", metavar="PICTURE", type=Path)
+    drawn.add_argument("--voices", help="which voices, as 0,3-5 (the first eight without it)")
+    drawn.add_argument("--title", help="what stands above the picture (the file's name without it)")
+    drawn.set_defaults(run=_plot)
+    return parser
+
+
+class Source:
+    """A list from a file: its bytes, and where a refused record stands for the reader."""
+
+    def __init__(self, path):
+        self.path = path
+        self.lines = None
+        data = _loaded(path)
+        if path.suffix == ".list":
+            self.data = data
+            return
+        try:
+            self.data, self.lines = text.read(data.decode("utf-8-sig"))
+        except UnicodeDecodeError:
+            raise Wrong(f"{path}: expected text in UTF-8; the name of a list's bytes ends in .list") from None
+        except text.TextError as wrong:
+            raise Wrong(f"{path}:{wrong.line}: {wrong}") from None
+
+    def refused(self, refused):
+        """A refusal in words, with the line of the text or the byte of the list."""
+        if self.lines is None:
+            return Wrong(f"{self.path}: at byte {refused.at}: {refused}")
+        line = max((line for at, line in self.lines if at <= refused.at), default=1)
+        return Wrong(f"{self.path}:{line}: {refused}")
+
+
+def _loaded(path):
+    try:
+        return path.read_bytes()
+    except OSError as wrong:
+        raise Wrong(f"{path}: {wrong.strerror}") from None
+
+
+def _stored(path, data):
+    try:
+        path.write_bytes(data)
+    except OSError as wrong:
+        raise Wrong(f"{path}: {wrong.strerror}") from None
+
+
+def _play(arguments):
+    source = Source(arguments.file)
+    try:
+        frames = engine.play(engine.program("play"), source.data)
+    except engine.Refused as refused:
+        if refused.refusal == 11:
+            raise Wrong(
+                f"{source.refused(refused)}: the program play holds {PLAYED}, a host any number (hosts/)"
+            ) from None
+        raise source.refused(refused) from None
+    show = _bits if arguments.bits else _bar if frames and len(frames[0]) == 1 else _levels
+    if frames and not arguments.bits:
+        print(" ".join(["frame"] + [f"voice {voice:<2}" for voice in range(len(frames[0]))]).rstrip())
+    for frame, levels in enumerate(frames):
+        print(show(frame, levels))
+
+
+def _bits(frame, levels):
+    return " ".join([str(frame)] + [f"{level:08x}" for level in levels])
+
+
+def _levels(frame, levels):
+    return " ".join([f"{frame:5}"] + [f"{floats.value(level, floats.BINARY32):8.6f}" for level in levels])
+
+
+def _bar(frame, levels):
+    level = floats.value(levels[0], floats.BINARY32)
+    return f"{_levels(frame, levels)} {'#' * round(60 * min(max(level, 0), 1))}".rstrip()
+
+
+def _write(arguments):
+    if arguments.file.suffix == ".list":
+        raise Wrong(f"{arguments.file}: expected a text; a name that ends in .list is a list already")
+    if arguments.to.suffix != ".list":
+        raise Wrong(f"{arguments.to}: expected a name that ends in .list")
+    _stored(arguments.to, Source(arguments.file).data)
+
+
+def _read(arguments):
+    print(text.write(_loaded(arguments.file)), end="")
+
+
+def _plot(arguments):
+    source = Source(arguments.file)
+    if arguments.to.suffix != ".svg":
+        raise Wrong(f"{arguments.to}: expected a name that ends in .svg")
+    replay = engine.program("replay")
+    try:
+        engine.check(replay, source.data)
+    except engine.Refused as refused:
+        raise source.refused(refused) from None
+    found, frames = plot.marks(source.data)
+    count = source.data[records.HEAD]
+    if frames * max(count, 1) > MOST_LEVELS:
+        raise Wrong(
+            f"{arguments.file}: {frames} frames of {count} voices are too long to draw: at most {MOST_LEVELS} levels"
+        )
+    voices = list(range(min(count, 8))) if arguments.voices is None else _voices(arguments.voices, count)
+    moments = engine.moments(replay, source.data, voices, max(1, -(-frames // plot.MOST_MOMENTS)))
+    title = arguments.title or arguments.file.stem
+    picture = plot.draw(title, voices, moments, found, plot.axis(source.data, frames))
+    _stored(arguments.to, picture.encode("utf-8"))
+
+
+def _voices(given, count):
+    """The voices that were chosen, as in 0,3-5."""
+    voices = []
+    for part in given.split(","):
+        first, _, last = part.partition("-")
+        last = last or first
+        if not (first.isdecimal() and last.isdecimal() and int(first) <= int(last) < count):
+            raise Wrong(f"--voices {given}: expected voices from 0 to {count - 1}, as 0,3-5")
+        voices += range(int(first), int(last) + 1)
+    return voices

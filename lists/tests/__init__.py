@@ -1,0 +1,1 @@
+"""Tests of the tool for event lists: python3 -m unittest discover -s lists -t ."""

@@ -1,0 +1,83 @@
+"""The command line, as people run it."""
+
+import subprocess
+import tempfile
+import unittest
+from pathlib import Path
+
+from lists.engine import HOME
+
+
+class Commands(unittest.TestCase):
+    def setUp(self):
+        folder = tempfile.TemporaryDirectory()
+        self.addCleanup(folder.cleanup)
+        self.folder = Path(folder.name)
+
+    def run_command(self, *words):
+        done = subprocess.run([HOME / "worfelli", *words], cwd=self.folder, capture_output=True, text=True, check=False)
+        return done.returncode, done.stdout, done.stderr
+
+    def stored(self, name, given):
+        (self.folder / name).write_text(given)
+        return name
+
+    def test_play(self):
+        status, out, said = self.run_command("play", HOME / "examples" / "sample.list")
+        self.assertEqual((status, said), (0, ""))
+        self.assertEqual(
+            out.splitlines()[:5],
+            ["frame voice 0", "    0 0.000000", "    1 0.000000", "    2 0.000000", "    3 0.250000 " + "#" * 15],
+        )
+        _, out, _ = self.run_command("play", "--bits", HOME / "examples" / "sample.list")
+        self.assertEqual(out, (HOME / "crates" / "play" / "stdout").read_text())
+        _, out, _ = self.run_command("play", HOME / "examples" / "joined.txt")
+        self.assertEqual(out.splitlines()[:2], ["frame voice 0  voice 1", "    0 0.000000 0.000000"])
+
+    def test_write_and_read(self):
+        name = self.stored("a.txt", "open voices=1 usual # one\nframes 3\n")
+        self.assertEqual(self.run_command("write", name, "a.list"), (0, "", ""))
+        self.assertEqual(self.run_command("read", "a.list"), (0, "open voices=1 usual\nframes 3\n", ""))
+
+    def test_plot(self):
+        status, out, said = self.run_command("plot", HOME / "examples" / "first.txt", "a.svg")
+        self.assertEqual((status, out, said), (0, "", ""))
+        self.assertEqual((self.folder / "a.svg").read_text(), (HOME / "examples" / "first.svg").read_text())
+
+    def test_what_goes_wrong(self):
+        sample = HOME / "examples" / "sample.list"
+        self.stored("line.txt", "open voices=1 usual\nfrmes 3\n")
+        self.stored("voice.txt", "# one\nopen voices=1 usual\n\ntrigger 1 new\n")
+        self.stored("long.txt", "open voices=1 usual\nframes 1000\nframes 25\n")
+        self.stored("huge.txt", "open voices=1 usual\nframes 4294967295\n")
+        (self.folder / "cut.list").write_bytes(sample.read_bytes()[:-1])
+        (self.folder / "byte.txt").write_bytes(b"\xff")
+        records = "open, settings, timing, trigger, release, reset, join, frames, bytes, define"
+        for words, said in [
+            (("play", "none.txt"), "none.txt: No such file or directory"),
+            (("play", "line.txt"), f"line.txt:2: expected {records}, not 'frmes'"),
+            (("play", "byte.txt"), "byte.txt: expected text in UTF-8; the name of a list's bytes ends in .list"),
+            (("play", "voice.txt"), "voice.txt:4: refused 2: the bank has no such voice"),
+            (("play", "cut.list"), "cut.list: at byte 80: refused 6: the bytes end before the record does"),
+            (
+                ("play", "long.txt"),
+                "long.txt:3: refused 11: more levels than the output holds: the program play holds 16384, a host any number (hosts/)",
+            ),
+            (("plot", "voice.txt", "a.svg"), "voice.txt:4: refused 2: the bank has no such voice"),
+            (
+                ("plot", "huge.txt", "a.svg"),
+                "huge.txt: 4294967295 frames of 1 voices are too long to draw: at most 16777216 levels",
+            ),
+            (("plot", sample, "a.png"), "a.png: expected a name that ends in .svg"),
+            (("plot", sample, "a.svg", "--voices", "0-1"), "--voices 0-1: expected voices from 0 to 0, as 0,3-5"),
+            (("plot", sample, "none/a.svg"), "none/a.svg: No such file or directory"),
+            (("write", sample, "a.list"), f"{sample}: expected a text; a name that ends in .list is a list already"),
+            (("write", "voice.txt", "a.bin"), "a.bin: expected a name that ends in .list"),
+        ]:
+            self.assertEqual(self.run_command(*words), (1, "", f"worfelli: {said}\n"))
+            self.assertFalse((self.folder / "a.svg").exists())
+
+    def test_no_command(self):
+        status, out, said = self.run_command()
+        self.assertEqual((status, out), (2, ""))
+        self.assertIn("usage: worfelli", said)
