@@ -1,6 +1,7 @@
 """The command line."""
 
 import argparse
+import os
 import sys
 from pathlib import Path
 
@@ -11,8 +12,7 @@ Worfelli's event lists for people: play one, write it as text and back, and draw
 A file whose name ends in .list holds a list's bytes (docs/FORMAT.md), any other one its text (docs/TEXT.md).
 """
 
-# What the program play holds, in levels.
-PLAYED = 16384
+# What is asked of replay at once, in levels: 64 MiB of them.
 MOST_LEVELS = 1 << 24
 
 
@@ -30,9 +30,8 @@ def main(given):
         print(f"worfelli: {wrong}", file=sys.stderr)
         return 1
     except BrokenPipeError:
-        # Who reads has seen enough, as in `worfelli play LIST | head`.
-        sys.stderr.close()
-        return 1
+        # Who reads has seen enough, as in `worfelli play LIST | head`. Python flushes once more at its exit.
+        os.dup2(os.open(os.devnull, os.O_WRONLY), sys.stdout.fileno())
     return 0
 
 
@@ -44,6 +43,7 @@ def _arguments():
     play = commands.add_parser("play", help="play a list and show its levels")
     play.add_argument("file", metavar="FILE", type=Path)
     play.add_argument("--bits", action="store_true", help="print each level's bits, as the program play does")
+    play.add_argument("--every", metavar="N", type=_positive, help="show every Nth frame")
     play.set_defaults(run=_play)
     write = commands.add_parser("write", help="write a text as a list")
     write.add_argument("file", metavar="TEXT", type=Path)
@@ -59,6 +59,12 @@ def _arguments():
     drawn.add_argument("--title", help="what stands above the picture (the file's name without it)")
     drawn.set_defaults(run=_plot)
     return parser
+
+
+def _positive(text):
+    if not text.isdecimal() or int(text) == 0:
+        raise argparse.ArgumentTypeError("expected a number from 1")
+    return int(text)
 
 
 class Source:
@@ -103,18 +109,41 @@ def _stored(path, data):
 def _play(arguments):
     source = Source(arguments.file)
     try:
-        frames = engine.play(engine.program("play"), source.data)
+        levels = engine.play(engine.program("play"), source.data)
+        rows = list(enumerate(levels))[:: arguments.every or 1]
     except engine.Refused as refused:
-        if refused.refusal == 11:
-            raise Wrong(
-                f"{source.refused(refused)}: the program play holds {PLAYED}, a host any number (hosts/)"
-            ) from None
         raise source.refused(refused) from None
-    show = _bits if arguments.bits else _bar if frames and len(frames[0]) == 1 else _levels
-    if frames and not arguments.bits:
-        print(" ".join(["frame"] + [f"voice {voice:<2}" for voice in range(len(frames[0]))]).rstrip())
-    for frame, levels in enumerate(frames):
+    except engine.TooLong:
+        rows = _rows_of_long(source, arguments.every)
+    show = _bits if arguments.bits else _bar if rows and len(rows[0][1]) == 1 else _levels
+    if rows and not arguments.bits:
+        print(" ".join(["frame"] + [f"voice {voice:<2}" for voice in range(len(rows[0][1]))]).rstrip())
+    for frame, levels in rows:
         print(show(frame, levels))
+
+
+def _rows_of_long(source, every):
+    """Frames of a list that the program play cannot hold, by replay: some hundred of them if nothing else is asked."""
+    replay = engine.program("replay")
+    _, frames, count = _checked(replay, source)
+    step = every or -(-frames // 100)
+    if every is None:
+        print(f"worfelli: {frames} frames, of which every {step}th is shown (--every N)", file=sys.stderr)
+    moments = engine.moments(replay, source.data, list(range(count)), step)
+    return [(moment.frame, moment.levels) for moment in moments if moment.frame % step == 0 and moment.frame < frames]
+
+
+def _checked(replay, source):
+    """What the list sends, its frames and its voices, if it is not refused and not too long for replay."""
+    try:
+        engine.check(replay, source.data)
+    except engine.Refused as refused:
+        raise source.refused(refused) from None
+    found, frames = plot.marks(source.data)
+    count = source.data[records.HEAD]
+    if frames * engine.stride(count) > MOST_LEVELS:
+        raise Wrong(f"{source.path}: {frames} frames of {count} voices are too long: at most {MOST_LEVELS} levels")
+    return found, frames, count
 
 
 def _bits(frame, levels):
@@ -147,16 +176,7 @@ def _plot(arguments):
     if arguments.to.suffix != ".svg":
         raise Wrong(f"{arguments.to}: expected a name that ends in .svg")
     replay = engine.program("replay")
-    try:
-        engine.check(replay, source.data)
-    except engine.Refused as refused:
-        raise source.refused(refused) from None
-    found, frames = plot.marks(source.data)
-    count = source.data[records.HEAD]
-    if frames * max(count, 1) > MOST_LEVELS:
-        raise Wrong(
-            f"{arguments.file}: {frames} frames of {count} voices are too long to draw: at most {MOST_LEVELS} levels"
-        )
+    found, frames, count = _checked(replay, source)
     voices = list(range(min(count, 8))) if arguments.voices is None else _voices(arguments.voices, count)
     moments = engine.moments(replay, source.data, voices, max(1, -(-frames // plot.MOST_MOMENTS)))
     title = arguments.title or arguments.file.stem

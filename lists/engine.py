@@ -22,12 +22,15 @@ REASONS = {
     8: "another length than the tag's",
     9: "a list is opened once, by its first record",
     10: "a code byte with no meaning",
-    11: "more levels than the output holds",
 }
 
 
 class EngineError(Exception):
     """Why a program could not be built or run."""
+
+
+class TooLong(Exception):
+    """The program `play` cannot hold the list or its levels."""
 
 
 class Refused(Exception):
@@ -78,10 +81,10 @@ def play(path, data):
     """The levels of a list by the program `play`: for each frame the bits of each voice's level."""
     lines = _run(path, data).decode("ascii").splitlines()
     if lines == ["too long"]:
-        raise EngineError("the list is over the 16384 bytes that the program play reads")
+        raise TooLong
     if lines and lines[0].startswith("refused "):
         _, refusal, _, at = lines[0].split()
-        raise Refused(int(refusal), int(at))
+        raise TooLong if refusal == "11" else Refused(int(refusal), int(at))
     return [[int(level, 16) for level in line.split()[1:]] for line in lines]
 
 
@@ -101,6 +104,11 @@ PROCESS, READINGS = 17, 18
 READING_WORDS = 31
 STAGE_WORD, LEVEL_WORD = 15, 17
 MOST_LEVELS = 262_144
+
+
+def stride(voices):
+    """Levels in a frame of so many voices."""
+    return max(16, (voices + 15) // 16 * 16)
 
 
 class Moment(NamedTuple):
@@ -129,7 +137,7 @@ class Take:
             self.frames(body["count"])
             return
         if record.tag == records.OPEN:
-            self.stride = max(16, (body["voices"] + 15) // 16 * 16)
+            self.stride = stride(body["voices"])
         given = records.encode(record.tag, body)[records.HEAD :]
         settings = given[-47:] if record.tag in (records.OPEN, records.SETTINGS_ONE, records.SETTINGS_ALL) else b""
         if record.tag == records.TRIGGER:

@@ -34,6 +34,21 @@ class Commands(unittest.TestCase):
         _, out, _ = self.run_command("play", HOME / "examples" / "joined.txt")
         self.assertEqual(out.splitlines()[:2], ["frame voice 0  voice 1", "    0 0.000000 0.000000"])
 
+    def test_play_of_a_long_take(self):
+        name = self.stored("long.txt", "open voices=2 usual\nframes 1000\ntrigger 1 new\nframes 2000\n")
+        status, out, said = self.run_command("play", name)
+        self.assertEqual((status, said), (0, "worfelli: 3000 frames, of which every 30th is shown (--every N)\n"))
+        shown = [line.split()[0] for line in out.splitlines()]
+        self.assertEqual(shown, ["frame"] + [str(frame) for frame in range(0, 3000, 30)])
+        # The same note at the beginning of a list that the program play holds.
+        short = self.stored("short.txt", "open voices=2 usual\ntrigger 1 new\nframes 17\n")
+        level = self.run_command("play", short, "--bits")[1].split()[-1]
+        status, out, said = self.run_command("play", name, "--every", "1016", "--bits")
+        rows = f"0 00000000 00000000\n1016 00000000 {level}\n2032 00000000 3f800000\n"
+        self.assertEqual((status, out, said), (0, rows, ""))
+        status, out, said = self.run_command("play", HOME / "examples" / "sample.list", "--every", "5", "--bits")
+        self.assertEqual((status, out, said), (0, "0 00000000\n5 3f400000\n", ""))
+
     def test_write_and_read(self):
         name = self.stored("a.txt", "open voices=1 usual # one\nframes 3\n")
         self.assertEqual(self.run_command("write", name, "a.list"), (0, "", ""))
@@ -48,7 +63,6 @@ class Commands(unittest.TestCase):
         sample = HOME / "examples" / "sample.list"
         self.stored("line.txt", "open voices=1 usual\nfrmes 3\n")
         self.stored("voice.txt", "# one\nopen voices=1 usual\n\ntrigger 1 new\n")
-        self.stored("long.txt", "open voices=1 usual\nframes 1000\nframes 25\n")
         self.stored("huge.txt", "open voices=1 usual\nframes 4294967295\n")
         (self.folder / "cut.list").write_bytes(sample.read_bytes()[:-1])
         (self.folder / "byte.txt").write_bytes(b"\xff")
@@ -59,15 +73,12 @@ class Commands(unittest.TestCase):
             (("play", "byte.txt"), "byte.txt: expected text in UTF-8; the name of a list's bytes ends in .list"),
             (("play", "voice.txt"), "voice.txt:4: refused 2: the bank has no such voice"),
             (("play", "cut.list"), "cut.list: at byte 80: refused 6: the bytes end before the record does"),
-            (
-                ("play", "long.txt"),
-                "long.txt:3: refused 11: more levels than the output holds: the program play holds 16384, a host any number (hosts/)",
-            ),
             (("plot", "voice.txt", "a.svg"), "voice.txt:4: refused 2: the bank has no such voice"),
             (
                 ("plot", "huge.txt", "a.svg"),
-                "huge.txt: 4294967295 frames of 1 voices are too long to draw: at most 16777216 levels",
+                "huge.txt: 4294967295 frames of 1 voices are too long: at most 16777216 levels",
             ),
+            (("play", "huge.txt"), "huge.txt: 4294967295 frames of 1 voices are too long: at most 16777216 levels"),
             (("plot", sample, "a.png"), "a.png: expected a name that ends in .svg"),
             (("plot", sample, "a.svg", "--voices", "0-1"), "--voices 0-1: expected voices from 0 to 0, as 0,3-5"),
             (("plot", sample, "none/a.svg"), "none/a.svg: No such file or directory"),

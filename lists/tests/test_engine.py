@@ -61,8 +61,9 @@ class Programs(unittest.TestCase):
         self.assertEqual(stages, ["Delay"] * 2 + ["Attack"] * 4 + ["Hold"] + ["Decay"] * 2 + ["Sustain"] * 2)
 
     def test_too_long(self):
-        with self.assertRaisesRegex(engine.EngineError, "over the 16384 bytes"):
-            engine.play(self.play, bytes(16385))
+        for data in (bytes(16385), text.read("open voices=17 usual\nframes 513\n")[0]):
+            with self.assertRaises(engine.TooLong):
+                engine.play(self.play, data)
 
     def test_moments_of_a_long_take(self):
         data, _ = text.read("open voices=64 usual\ntrigger 0 new\nframes 10000\nrelease 0\nframes 5\n")
