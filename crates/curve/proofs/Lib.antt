@@ -1,2 +1,3 @@
+-- Laws about curves.
 pub mod Straight
 pub mod Start
