@@ -44,13 +44,14 @@ def _arguments():
     play.add_argument("file", metavar="FILE", type=Path)
     play.add_argument("--bits", action="store_true", help="print each level's bits, as the program play does")
     play.add_argument("--every", metavar="N", type=_positive, help="show every Nth frame")
+    play.add_argument("--voices", help="which voices, as 0,3-5 (all without it)")
     play.set_defaults(run=_play)
     write = commands.add_parser("write", help="write a text as a list")
     write.add_argument("file", metavar="TEXT", type=Path)
     write.add_argument("to", metavar="LIST", type=Path)
     write.set_defaults(run=_write)
     read = commands.add_parser("read", help="show a list as text")
-    read.add_argument("file", metavar="LIST", type=Path)
+    read.add_argument("file", metavar="FILE", type=Path)
     read.set_defaults(run=_read)
     drawn = commands.add_parser("plot", help="draw the levels and stages of a list's voices as an SVG")
     drawn.add_argument("file", metavar="FILE", type=Path)
@@ -115,9 +116,19 @@ def _play(arguments):
         raise source.refused(refused) from None
     except engine.TooLong:
         rows = _rows_of_long(source, arguments.every)
-    show = _bits if arguments.bits else _bar if rows and len(rows[0][1]) == 1 else _levels
-    if rows and not arguments.bits:
-        print(" ".join(["frame"] + [f"voice {voice:<2}" for voice in range(len(rows[0][1]))]).rstrip())
+    if rows and arguments.voices is not None:
+        chosen = _voices(arguments.voices, len(rows[0][1]))
+        rows = [(frame, [levels[voice] for voice in chosen]) for frame, levels in rows]
+    else:
+        chosen = range(len(rows[0][1]) if rows else 0)
+    _show(chosen, rows, arguments.bits)
+
+
+def _show(voices, rows, bits):
+    """A line for each frame, under the voices' numbers; with a bar where there is one voice."""
+    if rows and not bits:
+        print(" ".join(["frame"] + [f"voice {voice:<2}" for voice in voices]).rstrip())
+    show = _bits if bits else _bar if len(voices) == 1 else _levels
     for frame, levels in rows:
         print(show(frame, levels))
 
@@ -168,7 +179,7 @@ def _write(arguments):
 
 
 def _read(arguments):
-    print(text.write(_loaded(arguments.file)), end="")
+    print(text.write(Source(arguments.file).data), end="")
 
 
 def _plot(arguments):
@@ -191,6 +202,6 @@ def _voices(given, count):
         first, _, last = part.partition("-")
         last = last or first
         if not (first.isdecimal() and last.isdecimal() and int(first) <= int(last) < count):
-            raise Wrong(f"--voices {given}: expected voices from 0 to {count - 1}, as 0,3-5")
+            raise Wrong(f"--voices {given}: expected some of the list's {count} voices, from 0, as 0,3-5")
         voices += range(int(first), int(last) + 1)
     return voices

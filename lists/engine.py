@@ -1,7 +1,8 @@
 """Runs Worfelli's proved programs: `play`, which plays a list, and `replay`, which answers a bank's calls."""
 
-import subprocess
+import re
 import struct
+import subprocess
 import sys
 from pathlib import Path
 from typing import NamedTuple
@@ -56,7 +57,7 @@ def program(name):
     with building:
         line = ""
         for line in building.stdout:
-            if line.startswith("rt: ") and line.endswith(" s)\n"):
+            if re.fullmatch(r"rt: \w+ proved \([0-9]+ s\)\n", line):
                 _say(line[4:].rstrip())
     if building.returncode != 0:
         raise EngineError(f"{name} could not be built: {line.rstrip()[:300]}")

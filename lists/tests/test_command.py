@@ -5,7 +5,14 @@ import tempfile
 import unittest
 from pathlib import Path
 
+from lists import engine
 from lists.engine import HOME
+
+
+def setUpModule():
+    """Builds the programs, so that no command says that it does."""
+    engine.program("play")
+    engine.program("replay")
 
 
 class Commands(unittest.TestCase):
@@ -34,6 +41,17 @@ class Commands(unittest.TestCase):
         _, out, _ = self.run_command("play", HOME / "examples" / "joined.txt")
         self.assertEqual(out.splitlines()[:2], ["frame voice 0  voice 1", "    0 0.000000 0.000000"])
 
+    def test_play_of_chosen_voices(self):
+        retimed = HOME / "examples" / "retimed.txt"
+        _, out, _ = self.run_command("play", retimed, "--bits")
+        whole = [line.split() for line in out.splitlines()]
+        _, out, _ = self.run_command("play", retimed, "--bits", "--voices", "63,1-2")
+        self.assertEqual(
+            [line.split() for line in out.splitlines()], [[row[0], row[64], row[2], row[3]] for row in whole]
+        )
+        _, out, _ = self.run_command("play", retimed, "--voices", "5")
+        self.assertEqual(out.splitlines()[:2], ["frame voice 5", "    0 0.000000"])
+
     def test_play_of_a_long_take(self):
         name = self.stored("long.txt", "open voices=2 usual\nframes 1000\ntrigger 1 new\nframes 2000\n")
         status, out, said = self.run_command("play", name)
@@ -53,6 +71,7 @@ class Commands(unittest.TestCase):
         name = self.stored("a.txt", "open voices=1 usual # one\nframes 3\n")
         self.assertEqual(self.run_command("write", name, "a.list"), (0, "", ""))
         self.assertEqual(self.run_command("read", "a.list"), (0, "open voices=1 usual\nframes 3\n", ""))
+        self.assertEqual(self.run_command("read", name), (0, "open voices=1 usual\nframes 3\n", ""))
 
     def test_plot(self):
         status, out, said = self.run_command("plot", HOME / "examples" / "first.txt", "a.svg")
@@ -80,7 +99,10 @@ class Commands(unittest.TestCase):
             ),
             (("play", "huge.txt"), "huge.txt: 4294967295 frames of 1 voices are too long: at most 16777216 levels"),
             (("plot", sample, "a.png"), "a.png: expected a name that ends in .svg"),
-            (("plot", sample, "a.svg", "--voices", "0-1"), "--voices 0-1: expected voices from 0 to 0, as 0,3-5"),
+            (
+                ("plot", sample, "a.svg", "--voices", "0-1"),
+                "--voices 0-1: expected some of the list's 1 voices, from 0, as 0,3-5",
+            ),
             (("plot", sample, "none/a.svg"), "none/a.svg: No such file or directory"),
             (("write", sample, "a.list"), f"{sample}: expected a text; a name that ends in .list is a list already"),
             (("write", "voice.txt", "a.bin"), "a.bin: expected a name that ends in .list"),
