@@ -44,16 +44,19 @@ class Refused(Exception):
 
 
 def program(name):
-    """The path of a program, proved and built first where it is missing or its sources have changed."""
+    """The path of a program, proved and built first where it is missing or its sources have changed. Without rt,
+    the one that is there."""
     path = HOME / "target" / "bin" / name
-    if not path.exists():
-        _say(f"building {name}: every function that it stands on is proved first, a few minutes, and only this once")
     try:
         building = subprocess.Popen(
             ["rt", "check", name], cwd=HOME, stdout=subprocess.PIPE, stderr=subprocess.STDOUT, text=True
         )
     except FileNotFoundError:
+        if path.exists():
+            return path
         raise EngineError("rt, the command of the Rattle toolchain, is not on the PATH") from None
+    if not path.exists():
+        _say(f"building {name}: every function that it stands on is proved first, a few minutes, and only this once")
     with building:
         line = ""
         for line in building.stdout:

@@ -283,8 +283,5 @@ def _settings(body, fields):
 
 
 def _folded(line, before=""):
-    return (
-        before
-        + textwrap.fill(line, COLUMNS, subsequent_indent="    ", break_long_words=False, break_on_hyphens=False)
-        + "\n"
-    )
+    folded = textwrap.fill(line, COLUMNS, subsequent_indent="    ", break_long_words=False, break_on_hyphens=False)
+    return f"{before}{folded}\n"
