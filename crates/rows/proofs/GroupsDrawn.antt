@@ -13,7 +13,7 @@ use Rattle.numbers.specs.Constants as Constants
 use Rattle.curve.specs.Segments.{uAfter}
 use Rattle.envelope.specs.Parts.{Filled}
 use Rattle.envelope.proofs.Fill.{split, filled-none}
-use Rattle.rows.specs.Rows.{movedAt, drawnAt, laneAt, fitting, GroupDrawn, Drawn}
+use Rattle.rows.specs.Rows.{movedAt, drawnAt, laneAt, fitting, Loaded, GroupLoaded, GroupDrawn, Drawn}
 use Rattle.rows.proofs.RowsDrawn.{Told}
 
 -- A lane of zeros stays at +0, and so does its level.
@@ -26,11 +26,7 @@ dark : add binary32 (mul binary32 Constants.zero Constants.zero) Constants.zero 
 unfolding add mul ofBits
 dark = refl
 
--- Sixteen lanes from lane g on, as `load` gives them.
-abbrev pub Loaded : List Float → ℕ → ℕ → List Float → Type 0
-Loaded a g n x = Filled nan (λ i. cond (ltb (g + i) n) (getD a (g + i) nan) Constants.zero) 0 16 (replicate 16 Constants.zero) x
-
-module _ (g n : ℕ) (a x : List Float) (X : Loaded a g n x) where
+module _ (g n : ℕ) (a x : List Float) (X : Loaded g n a x) where
   loaded-voice : (j : ℕ) → j < 16 → g + j < n → getD x j nan ≡ getD a (g + j) nan
   loaded-voice j p q = X .inside j (omega arith) p ∙ rw (lt-ltb (g + j) n q)
 
@@ -91,35 +87,35 @@ module _ {A : Type 0} (z : A) (wide : ℕ) (cell : (ℕ → Float) → ℕ → A
   module _ (told : Told z wide cell) (shifts : Shifts) (stride q n rows g : ℕ) (u₀ u r d s b : List Float) (o₀ o o′ : List A) (xu xr xd xs xb x u′ : List Float)
       (g-is : g ≡ 16 * q)
       (G : GroupsDrawn stride q n rows u₀ r d s b o₀ o u)
-      (U : Loaded u g n xu) (R : Loaded r g n xr) (D : Loaded d g n xd) (S : Loaded s g n xs) (B : Loaded b g n xb)
+      (L : GroupLoaded g n u r d s b xu xr xd xs xb)
       (W : GroupDrawn z wide cell stride (wide * q) rows xu xr xd xs xb o o′ x)
       (P : Filled nan (λ j. cond (ltb j n) (getD x (j - g) nan) (getD u j nan)) g (g + 16) u u′) where
     -- u of a voice that no group has moved yet.
     own-u : (j : ℕ) → j < 16 → g + j < n → getD xu j nan ≡ getD u₀ (g + j) nan
-    own-u j p h = loaded-voice g n u xu U j p h ∙ G .moved .after (g + j) (omega arith)
+    own-u j p h = loaded-voice g n u xu (L .u-loaded) j p h ∙ G .moved .after (g + j) (omega arith)
 
     new-moved : (j : ℕ) → j < 16 → g + j < n → getD x j nan ≡ movedAt rows u₀ r d (g + j)
     new-moved j p h =
         let eu = own-u j p h in
-        let er = loaded-voice g n r xr R j p h in
-        let ed = loaded-voice g n d xd D j p h in
+        let er = loaded-voice g n r xr (L .r-loaded) j p h in
+        let ed = loaded-voice g n d xd (L .d-loaded) j p h in
         W .moved j p ∙ cc
 
     new-level : (k j : ℕ) → j < 16 → (g + j < n) ⊎ (n ≤ g + j) → drawnAt k xu xr xd xs xb j ≡ laneAt n k u₀ r d s b (g + j)
     new-level k j p (inl h) =
         let eu = own-u j p h in
-        let er = loaded-voice g n r xr R j p h in
-        let ed = loaded-voice g n d xd D j p h in
-        let es = loaded-voice g n s xs S j p h in
-        let eb = loaded-voice g n b xb B j p h in
+        let er = loaded-voice g n r xr (L .r-loaded) j p h in
+        let ed = loaded-voice g n d xd (L .d-loaded) j p h in
+        let es = loaded-voice g n s xs (L .s-loaded) j p h in
+        let eb = loaded-voice g n b xb (L .b-loaded) j p h in
         let e : drawnAt k xu xr xd xs xb j ≡ drawnAt k u₀ r d s b (g + j) = cc in
         rw (lt-ltb (g + j) n h) e
     new-level k j p (inr h) =
-        let eu = loaded-spare g n u xu U j p h in
-        let er = loaded-spare g n r xr R j p h in
-        let ed = loaded-spare g n d xd D j p h in
-        let es = loaded-spare g n s xs S j p h in
-        let eb = loaded-spare g n b xb B j p h in
+        let eu = loaded-spare g n u xu (L .u-loaded) j p h in
+        let er = loaded-spare g n r xr (L .r-loaded) j p h in
+        let ed = loaded-spare g n d xd (L .d-loaded) j p h in
+        let es = loaded-spare g n s xs (L .s-loaded) j p h in
+        let eb = loaded-spare g n b xb (L .b-loaded) j p h in
         let e : drawnAt k xu xr xd xs xb j
         ≡ add binary32 (mul binary32 (uAfter k Constants.zero Constants.zero Constants.zero) Constants.zero) Constants.zero = cc in
         rw (le-ltb (g + j) n h)

@@ -4,7 +4,7 @@ use mathlib.Core.Bool.{Bool, cond}
 use mathlib.Core.List.{List, [], _∷_}
 use Prim.Native.Nat.{ℕ, zero, suc, _+_, _*_, _/_, _%_, _≤_, _<_}
 use lib.Dec.{ltb}
-use lib.ListN.{length, getD}
+use lib.ListN.{length, getD, replicate}
 use lib.Ieee.{Float, nan, binary32, add, mul, toBits}
 use Rattle.numbers.specs.Constants as Constants
 use Rattle.curve.specs.Segments.{uAfter}
@@ -37,6 +37,18 @@ Still u r d = (i : ℕ) → i < 16 → stepsAt u r d i ≡ getD u i nan
 -- Their next levels x, or the last ones y if they stand still.
 abbrev pub NextLevels : Bool → List Float → List Float → List Float → List Float → List Float → Type 0
 NextLevels still y u s b x = (i : ℕ) → i < 16 → getD x i nan ≡ cond still (getD y i nan) (levelsAt u s b i)
+
+-- Sixteen lanes x of an array a, from lane g on, with zeros in those that are none of n voices.
+abbrev pub Loaded : ℕ → ℕ → List Float → List Float → Type 0
+Loaded g n a x = Filled nan (λ i. cond (ltb (g + i) n) (getD a (g + i) nan) Constants.zero) 0 16 (replicate 16 Constants.zero) x
+
+-- And of each array.
+pub record GroupLoaded (g n : ℕ) (u r d s b xu xr xd xs xb : List Float) : Type 0 where
+  pub u-loaded : Loaded g n u xu
+  pub r-loaded : Loaded g n r xr
+  pub d-loaded : Loaded g n d xd
+  pub s-loaded : Loaded g n s xs
+  pub b-loaded : Loaded g n b xb
 
 -- ---- what is stored
 

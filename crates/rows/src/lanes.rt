@@ -7,14 +7,22 @@ ghost use mathlib.Core.Bool.{true, cond};
 ghost use Prim.Native.Nat.{_+_, _-_, _≤_};
 ghost use lib.Dec.{ltb};
 ghost use lib.Ieee.{nan};
-ghost use lib.ListN.{length, getD, replicate};
-ghost use Rattle.numbers.specs.Constants as Constants;
+ghost use lib.ListN.{length, getD};
 ghost use Rattle.envelope.specs.Parts.{Filled};
 ghost use Rattle.rows.specs.Rows as Rows;
 
 // u of 64 lanes after some rows.
 pub struct Moved {
     pub u: [f32; 64],
+}
+
+// Sixteen lanes of the arrays.
+pub(crate) struct Group {
+    pub(crate) u: [f32; 16],
+    pub(crate) r: [f32; 16],
+    pub(crate) d: [f32; 16],
+    pub(crate) scale: [f32; 16],
+    pub(crate) base: [f32; 16],
 }
 
 // Fewer rows than this are not worth the test.
@@ -32,7 +40,7 @@ fn pick(first: bool, a: f32, b: f32) -> f32
 // The sixteen lanes from lane g on, with zeros in those that are no voices: such a lane stays at +0.
 fn load(a: &[f32; 64], g: usize, voices: usize) -> [f32; 16]
     requires { ⌜ g ≤ 48 ⌝ }
-    ensures { λ r. ⌜ Filled nan (λ i. cond (ltb (g + i) voices) (getD (now (a .entry)) (g + i) nan) Constants.zero) 0 16 (replicate 16 Constants.zero) r ⌝ }
+    ensures { λ r. ⌜ Rows.Loaded g voices (now (a .entry)) r ⌝ }
 {
     let mut x = [0.0f32; 16];
     let mut i = 0;
@@ -41,6 +49,28 @@ fn load(a: &[f32; 64], g: usize, voices: usize) -> [f32; 16]
         i += 1;
     }
     x
+}
+
+// The lanes from lane g on, of each array.
+fn load_group(
+    u: &[f32; 64],
+    r: &[f32; 64],
+    d: &[f32; 64],
+    scale: &[f32; 64],
+    base: &[f32; 64],
+    g: usize,
+    voices: usize,
+) -> Group
+    requires { ⌜ g ≤ 48 ⌝ }
+    ensures { λ x. ⌜ Rows.GroupLoaded g voices (now (u .entry)) (now (r .entry)) (now (d .entry)) (now (scale .entry)) (now (base .entry)) (x .u) (x .r) (x .d) (x .scale) (x .base) ⌝ }
+{
+    Group {
+        u: load(u, g, voices),
+        r: load(r, g, voices),
+        d: load(d, g, voices),
+        scale: load(scale, g, voices),
+        base: load(base, g, voices),
+    }
 }
 
 // Puts the voices among sixteen lanes back.

@@ -7,8 +7,9 @@ ghost use lib.Seq.{sets};
 ghost use Rattle.envelope.specs.Parts.{Filled};
 ghost use Rattle.rows.specs.Rows as Rows;
 ghost use Rattle.rows.specs.Strides as Strides;
+use crate::lanes::Group;
 use crate::lanes::Moved;
-use crate::lanes::load;
+use crate::lanes::load_group;
 use crate::lanes::next_row;
 use crate::lanes::stands;
 use crate::lanes::store;
@@ -39,20 +40,15 @@ fn put_row(row: &mut [u8], y: &[f32; 16])
 
 // The levels of sixteen lanes, from byte g of a row on, in each of `rows` rows. Answers their u after
 // them.
-fn draw_group(
-    out: &mut [u8],
-    g: usize,
-    stride: usize,
-    rows: u32,
-    first: [f32; 16],
-    r: [f32; 16],
-    d: [f32; 16],
-    scale: [f32; 16],
-    base: [f32; 16],
-) -> [f32; 16]
+fn draw_group(out: &mut [u8], g: usize, stride: usize, rows: u32, group: Group) -> [f32; 16]
     requires { ⌜ (stride ≤ 256) × (g + 64 ≤ stride) × (rows * stride ≤ length (now out)) ⌝ }
-    ensures { λ u. ⌜ Rows.GroupDrawn 0 64 Rows.byteCell stride g rows first r d scale base (now (out .entry)) (now (out .exit)) u ⌝ }
+    ensures { λ u. ⌜ Rows.GroupDrawn 0 64 Rows.byteCell stride g rows (group .u) (group .r) (group .d) (group .scale) (group .base) (now (out .entry)) (now (out .exit)) u ⌝ }
 {
+    let first = group.u;
+    let r = group.r;
+    let d = group.d;
+    let scale = group.scale;
+    let base = group.base;
     let mut u = first;
     let mut y = next_row(false, first, &mut u, &r, &d, &scale, &base);
     u = first;
@@ -91,17 +87,8 @@ pub fn draw_bytes(
     let mut q = 0;
     while q < groups {
         let g = 16 * q;
-        let after = draw_group(
-            out,
-            64 * q,
-            stride,
-            rows,
-            load(&next, g, n),
-            load(r, g, n),
-            load(d, g, n),
-            load(scale, g, n),
-            load(base, g, n),
-        );
+        let group = load_group(&next, r, d, scale, base, g, n);
+        let after = draw_group(out, 64 * q, stride, rows, group);
         store(&mut next, g, n, after);
         q += 1;
     }

@@ -59,29 +59,17 @@ loop-holds c = (search needs, search needs, c .before .before .before .before .g
 mul-g : tie.Need-mul-g Inv-loop μ-loop
 mul-g c = search needs
 
-load-requires : tie.Need-load-requires Inv-loop μ-loop
-load-requires c κs = small (c .before .before)
-
-load-requires-2 : tie.Need-load-requires-2 Inv-loop μ-loop
-load-requires-2 c κs = small (c .before .before .before)
-
-load-requires-3 : tie.Need-load-requires-3 Inv-loop μ-loop
-load-requires-3 c κs = small (c .before .before .before .before)
-
-load-requires-4 : tie.Need-load-requires-4 Inv-loop μ-loop
-load-requires-4 c κs = small (c .before .before .before .before .before)
-
-load-requires-5 : tie.Need-load-requires-5 Inv-loop μ-loop
-load-requires-5 c κs = small (c .before .before .before .before .before .before)
+load-group-requires : tie.Need-load-group-requires Inv-loop μ-loop
+load-group-requires c κs = small (c .before)
 
 draw-group-requires : tie.Need-draw-group-requires Inv-loop μ-loop
 draw-group-requires c κs =
-    let c₇ = c .before .before .before .before .before .before .before in
-    let g = c₇ .before .before .before in
-    (omega (arith, grouped g), omega (arith, grouped g, c₇ .loop-test .taken), omega (arith, c₇ .before .before .if1 .left, c₇ .before .loop .inv .1))
+    let c₃ = c .before .before .before in
+    let g = c₃ .before .before .before in
+    (omega (arith, grouped g), omega (arith, grouped g, c₃ .loop-test .taken), omega (arith, c₃ .before .before .if1 .left, c₃ .before .loop .inv .1))
 
 store-requires : tie.Need-store-requires Inv-loop μ-loop
-store-requires c κs = (small (c .before .before .before .before .before .before .before .before .before .before .before), c .before .before .before .before .before .before .before .before .before .before .before .before .loop .inv .2)
+store-requires c κs = (small (c .before .before .before .before .before .before .before), c .before .before .before .before .before .before .before .before .loop .inv .2)
 
 add-q : tie.Need-add-q Inv-loop μ-loop
 add-q c = search needs
@@ -91,23 +79,18 @@ loop-less c = search needs
 
 loop-again : tie.Need-loop-again Inv-loop μ-loop
 loop-again c =
-    let c₅ = c .before .before .before .before .before in
-    let c₆ = c₅ .before in
-    let c₇ = c₆ .before in
-    let c₈ = c₇ .before in
-    let c₉ = c₈ .before in
-    let c₁₂ = c₉ .before .before .before in
-    let a = c₁₂ .before .before .before .before .before .before .args in
-    let l = c₁₂ .before .loop in
+    let c₈ = c .before .before .before .before .before .before .before .before in
+    let a = c₈ .before .before .before .before .before .before .args in
+    let l = c₈ .before .loop in
+    let x = c .before .before .before .before .before .before .load-group in
     let w = c .before .before .before .before .draw-group in
     let s = c .store in (
-      omega (arith, c₁₂ .loop-test .taken),
+      omega (arith, c₈ .loop-test .taken),
       w .kept .0 ∙ l .inv .1,
       s .ensures .same ∙ l .inv .2,
       groups-more nan 16 floatCell float-told float-shifts _ (l .q) _ (a .rows) (16 * l .q) (a .u) (l .next) (a .r .now) (a .d .now) (a .scale .now) (a .base .now) (a .out .now) (l .out) _
-          (c₉ .load .result) (c₈ .load2 .result) (c₇ .load3 .result) (c₆ .load4 .result) (c₅ .load5 .result)
-          (w .result) _ refl (l .inv .3) (c₉ .load .ensures) (c₈ .load2 .ensures) (c₇ .load3 .ensures) (c₆ .load4 .ensures)
-          (c₅ .load5 .ensures) (w .ensures) (s .ensures),
+          (x .result .u) (x .result .r) (x .result .d) (x .result .scale) (x .result .base)
+          (w .result) _ refl (l .inv .3) (x .ensures) (w .ensures) (s .ensures),
     )
 
 same-length : tie.Need-same-length Inv-loop μ-loop
@@ -138,11 +121,7 @@ draw-spec =
     returns
     loop-holds
     mul-g
-    load-requires
-    load-requires-2
-    load-requires-3
-    load-requires-4
-    load-requires-5
+    load-group-requires
     draw-group-requires
     store-requires
     add-q

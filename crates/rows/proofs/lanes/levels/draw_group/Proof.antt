@@ -9,6 +9,7 @@ use lib.Ieee.{nan}
 use lib.ListN.{length}
 use Rattle.rows.specs.Rows.{floatCell, Still, GroupDrawn}
 use Rattle.rows.proofs.RowsDrawn.{LastRow, row-fits, row-levels, row-moved, row-kept, group-none, group-next}
+use Rattle.rows.proofs.Owned.{sixteen}
 use Rattle.rows.proofs.Places.{float-told}
 use Rattle.rows.proofs.lanes.levels.draw_group.Statement.{statement}
 use Rattle.rows.proofs.lanes.levels.draw_group.Tie as tie
@@ -31,9 +32,9 @@ abbrev loop-of : tie.After-next-row2 Inv-loop μ-loop → tie.At-loop Inv-loop �
 loop-of c = c .before .before .before .before .before .before .before
 
 abbrev start-of : tie.After-next-row2 Inv-loop μ-loop → tie.Start Inv-loop μ-loop
-start-of c = loop-of c .before .before .before .before .before .before .before .before .before .before .before .before
+start-of c = loop-of c .before .before .before .before .before .before .before .before .before .before .before .before .before .before .before .before .before
 
-still-then : (c : tie.After-next-row2 Inv-loop μ-loop) → loop-of c .before .stands .result ≡ true → Still (start-of c .args .first) (start-of c .args .t6) (start-of c .args .t7)
+still-then : (c : tie.After-next-row2 Inv-loop μ-loop) → loop-of c .before .stands .result ≡ true → Still (start-of c .args .group .u) (start-of c .args .group .r) (start-of c .args .group .d)
 still-then c = loop-of c .before .stands .ensures
 
 -- Row k has room.
@@ -43,7 +44,9 @@ room : (c : tie.After-next-row2 Inv-loop μ-loop)
 room c =
     let a = start-of c .args in
     let f = row-fits (loop-of c .loop .k) (a .rows) (a .stride) (c .before .before .before .before .before .before .loop-test .taken) in
-    (omega (arith, f), omega (arith, f))
+    let p = start-of c .pre in
+    let i = loop-of c .loop .inv in
+    (omega (arith, f, p, i .1, i .2), omega (arith, f, p, i .1, i .2))
 
 next-row-requires : tie.Need-next-row-requires Inv-loop μ-loop
 next-row-requires c κs = search needs
@@ -53,14 +56,14 @@ stands-requires c κs = search needs
 
 loop-holds : tie.Need-loop-holds Inv-loop μ-loop
 loop-holds c =
-    let c₁₁ = c .before .before .before .before .before .before .before .before .before .before .before in
-    (search needs, search needs, search needs, c₁₁ .good .1 .1 .1 .1 .0 .1 .0 .1, group-none nan 16 floatCell _ _ _ _ _ _ _ _, λ i h e. c .before .before .before .before .next-row .ensures .0 i h)
+    let c₁₆ = c .before .before .before .before .before .before .before .before .before .before .before .before .before .before .before .before in
+    (search needs, search needs, search needs, sixteen (c₁₆ .args .group) _ (c₁₆ .good .1 .1 .1 .1 .0), group-none nan 16 floatCell _ _ _ _ _ _ _ _, λ i h e. c .before .before .before .before .next-row .ensures .0 i h)
 
 next-row-requires-2 : tie.Need-next-row-requires-2 Inv-loop μ-loop
 next-row-requires-2 c κs = search needs
 
 mul-put-row : tie.Need-mul-put-row Inv-loop μ-loop
-mul-put-row c = record { fits = omega (arith, room c) }
+mul-put-row c = record { fits = omega (arith, room c, start-of c .good .0) }
 
 sub-put-row : tie.Need-sub-put-row Inv-loop μ-loop
 sub-put-row c = omega (arith, room c)
@@ -91,20 +94,21 @@ loop-again : tie.Need-loop-again Inv-loop μ-loop
 loop-again c =
     let c₅ = c .before .before .before .before .before in
     let a = start-of c₅ .args in
+    let x = a .group in
     let l = loop-of c₅ .loop in
     let q = c₅ .next-row2 in
     let S = still-then c₅ in
     let D = l .inv .4 in
     let last = l .inv .5 in
-    let Y = row-levels (a .first) (a .t6) (a .t7) (a .t8) (a .t9) (l .u) (l .y) (q .result) (l .k) (D .moved) _ S last (q .ensures .0) in
-    let M = row-moved (a .first) (a .t6) (a .t7) (a .t8) (a .t9) (l .u) (l .y) (q .result) (l .k) (D .moved) _ S last _ (q .ensures .1) in (
+    let Y = row-levels (x .u) (x .r) (x .d) (x .scale) (x .base) (l .u) (l .y) (q .result) (l .k) (D .moved) _ S last (q .ensures .0) in
+    let M = row-moved (x .u) (x .r) (x .d) (x .scale) (x .base) (l .u) (l .y) (q .result) (l .k) (D .moved) _ S last _ (q .ensures .1) in (
       search needs,
       rw (add-one (l .k)) (omega (arith, suc-mul (l .k) (a .stride))),
       search needs,
       q .ensures .1 .same ∙ l .inv .3,
-      group-next nan 16 floatCell float-told (a .stride) (a .g) (l .k) (a .first) (a .t6) (a .t7) (a .t8) (a .t9) (a .out .now) (l .out) _ (l .u) (q .result) _ (l .at)
+      group-next nan 16 floatCell float-told (a .stride) (a .g) (l .k) (x .u) (x .r) (x .d) (x .scale) (x .base) (a .out .now) (l .out) _ (l .u) (q .result) _ (l .at)
           (start-of c₅ .pre .1) (l .inv .1) (omega (arith, room c₅)) D Y (c .before .before .put-row .ensures) M,
-      row-kept (a .first) (a .t6) (a .t7) (a .t8) (a .t9) (l .u) (l .y) (q .result) _ last (q .ensures .0),
+      row-kept (x .u) (x .r) (x .d) (x .scale) (x .base) (l .u) (l .y) (q .result) _ last (q .ensures .0),
     )
 
 same-length : tie.Need-same-length Inv-loop μ-loop
@@ -112,10 +116,11 @@ same-length c = search needs
 
 returns : tie.Need-returns Inv-loop μ-loop
 returns c =
-    let a = c .before .before .before .before .before .before .before .before .before .before .before .before .before .args in
+    let a = c .before .before .before .before .before .before .before .before .before .before .before .before .before .before .before .before .before .before .args in
+    let x = a .group in
     let l = c .before .loop in
     let e : l .k ≡ a .rows = omega arith in
-    subst (λ (n : ℕ). GroupDrawn nan 16 floatCell (a .stride) (a .g) n (a .first) (a .t6) (a .t7) (a .t8) (a .t9) (a .out .now) (l .out) (l .u)) e (l .inv .4)
+    subst (λ (n : ℕ). GroupDrawn nan 16 floatCell (a .stride) (a .g) n (x .u) (x .r) (x .d) (x .scale) (x .base) (a .out .now) (l .out) (l .u)) e (l .inv .4)
 
 pub draw-group-spec : {M : Type 1} → statement M
 draw-group-spec =
