@@ -15,7 +15,7 @@ use Rattle.numbers.specs.Constants as Constants
 use Rattle.curve.specs.Segments as Segments
 use Rattle.lane.specs.declared.lanes.Voice.{Voice}
 use Rattle.lane.specs.Voices as Voices
-use Rattle.envelope.proofs.Fill.{split}
+use Rattle.filled.proofs.Filling.{split}
 use Rattle.bank.specs.declared.banks.EnvelopeBank.{EnvelopeBank}
 use Rattle.rows.specs.Strides.{strideOf}
 use Rattle.bank.specs.Banks.{voice, size, arrange, onAll, frame, frames, row, rows}

@@ -15,8 +15,8 @@ use Rattle.lane.specs.declared.lanes.Voice.{Voice}
 use Rattle.lane.specs.Planning.{advance}
 use Rattle.lane.proofs.Frames.{after, frames-untimed, frames-inside}
 use Rattle.lane.specs.Voices as Voices
-use Rattle.envelope.specs.Parts.{Filled}
-use Rattle.envelope.proofs.Fill.{split}
+use Rattle.filled.specs.Filled.{Filled}
+use Rattle.filled.proofs.Filling.{split}
 use Rattle.envelope.proofs.Runs.{run-ends}
 use Rattle.bank.specs.declared.banks.EnvelopeBank.{EnvelopeBank}
 use Rattle.bank.specs.Banks.{blank, voice}

@@ -11,7 +11,7 @@ use Rattle.timing.specs.declared.Timing.{Timing}
 use Rattle.timing.specs.Clock as Clock
 use Rattle.settings.specs.Settings.{amp}
 use Rattle.lane.specs.declared.lanes.Voice.{Voice}
-use Rattle.envelope.proofs.Fill.{split}
+use Rattle.filled.proofs.Filling.{split}
 use Rattle.bank.specs.declared.banks.EnvelopeBank.{EnvelopeBank}
 use Rattle.bank.specs.declared.banks.Answer.{Answer}
 use Rattle.bank.specs.Calls.{Opening, Call, refusal, openingRefusal, opened}

@@ -18,7 +18,7 @@ use Rattle.curve.specs.Segments as Segments
 use Rattle.lane.specs.declared.lanes.Voice.{Voice}
 use Rattle.lane.proofs.Frames.{frames-add}
 use Rattle.lane.specs.Voices as Voices
-use Rattle.envelope.proofs.Fill.{split}
+use Rattle.filled.proofs.Filling.{split}
 use Rattle.envelope.proofs.Runs.{levelAt, level-within}
 use Rattle.bank.specs.declared.banks.EnvelopeBank.{EnvelopeBank}
 use Rattle.bank.specs.declared.banks.Answer.{Answer}

@@ -1,3 +1,4 @@
 -- Laws about curves.
 pub mod Straight
 pub mod Start
+pub mod Steps

@@ -1,5 +1,4 @@
 -- The drawing of a block; what holds of every envelope that calls from a fresh one left; and the types as plain data, for the methods in place.
-pub mod Fill
 pub mod Runs
 pub mod Cuts
 pub mod Reachable

@@ -8,20 +8,21 @@ use native.Mathlib.Nat.{not-suc-le-zero, le-of-suc-le-suc}
 use native.Mathlib.Omega.{arith}
 use borrow.Author.Tests.{eqb-true, eqb-false}
 use lib.Dec.{eqb}
-use lib.Ieee.{Float, nan, binary32, add, mul}
+use lib.Ieee.{Float, nan}
 use lib.ListN.{length, getD}
 use lib.Seq.{ext-getD}
 use Rattle.timing.specs.declared.Timing.{Timing}
 use Rattle.curve.specs.declared.segments.Segment.{Segment}
 use Rattle.curve.specs.Segments as Segments
-use Rattle.curve.specs.Segments.{Inside, runLength, uAfter, untimed}
+use Rattle.curve.specs.Segments.{Inside, runLength, untimed}
 use Rattle.lane.specs.declared.lanes.Voice.{Voice}
 use Rattle.lane.specs.Planning.{advance}
 use Rattle.lane.specs.Voices as Voices
-use Rattle.lane.proofs.Frames.{after, uAfter-add, frames-from, frames-untimed, frames-inside, frame-last, frames-end}
+use Rattle.lane.proofs.Frames.{frames-from, frames-untimed, frames-inside, frame-last, frames-end}
 use Rattle.envelope.specs.declared.envelopes.Envelope.{Envelope}
 use Rattle.envelope.specs.Envelopes.{level, frame, frames, levels}
-use Rattle.envelope.specs.Parts.{Filled, levelAfter}
+use Rattle.filled.specs.Filled.{Filled}
+use Rattle.envelope.specs.Parts.{levelAfter}
 
 -- A run has a frame if there is one to draw, and no more than there are.
 pub run-some : (left most : ℕ) → 1 ≤ most → 1 ≤ runLength left most
@@ -39,10 +40,6 @@ run-few left most = go (eqb left untimed)
     go : (x : Bool) → cond x most (min most (max 1 left)) ≤ most
     go true = omega arith
     go false = omega arith
-
--- One sample more, stepped last.
-pub u-next : (n : ℕ) (u r d : Float) → add binary32 (mul binary32 (uAfter n u r d) r) d ≡ uAfter (n + 1) u r d
-u-next n u r d = sym (uAfter-add n 1 u r d)
 
 -- A frame of the envelope is one of its voice.
 pub frames-voice : (n : ℕ) (e : Envelope) → frames n e ≡ record { voice = Voices.frames n (e .timing) (e .voice); timing = e .timing }

@@ -7,7 +7,7 @@ ghost use Rattle.curve.specs.Segments as Segments;
 ghost use Rattle.lane.specs.Voices as Voices;
 ghost use Rattle.envelope.specs.Envelopes as Envelopes;
 ghost use Rattle.envelope.specs.Parts as Parts;
-ghost use Rattle.envelope.specs.Parts.{Filled};
+ghost use Rattle.filled.specs.Filled.{Filled};
 use crate::envelopes::Envelope;
 use crate::envelopes::Frame;
 use curve::Segment;

@@ -4,7 +4,6 @@ use Prim.Native.Nat.{ℕ, zero, suc, _+_, _-_, _≤_, _<_}
 use native.Mathlib.Omega.{arith}
 use native.Mathlib.Nat.{zero-add, suc-add, sub-zero}
 use borrow.Author.Tests.{eq-eqb, ne-eqb}
-use lib.Ieee.{Float, binary32, add, mul}
 use Rattle.timing.specs.declared.Timing.{Timing}
 use Rattle.curve.specs.declared.segments.Segment.{Segment}
 use Rattle.curve.specs.Segments.{nextU, uAfter, untimed}
@@ -19,10 +18,6 @@ drawn n left g = record { u = uAfter n (g .u) (g .r) (g .d); r = g .r; d = g .d;
 -- A voice after n samples of its segment, with `left` left.
 abbrev pub after : ℕ → ℕ → Voice → Voice
 after n left v = record { lane = v .lane; seg = drawn n left (v .seg) }
-
-pub uAfter-add : (m n : ℕ) (u r d : Float) → uAfter (m + n) u r d ≡ uAfter n (uAfter m u r d) r d
-uAfter-add zero n u r d = rw zero-add
-uAfter-add (suc m) n u r d = rw suc-add (uAfter-add m n (add binary32 (mul binary32 u r) d) r d)
 
 module _ (t : Timing) where
   pub frames-add : (m n : ℕ) (v : Voice) → frames (m + n) t v ≡ frames n t (frames m t v)

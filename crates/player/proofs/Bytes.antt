@@ -9,8 +9,8 @@ use borrow.Rule.Slice.PartMut.{midOf, putMid, same-len-mid}
 use lib.ListN.{length, getD, take, List·getD-append}
 use lib.Seq.{sets, length-sets, ext-getD, getD-append-add, getD-drop}
 use lib.Ieee.{Float, nan, binary32, toBits}
-use Rattle.envelope.specs.Parts.{Filled}
-use Rattle.envelope.proofs.Fill.{split}
+use Rattle.filled.specs.Filled.{Filled}
+use Rattle.filled.proofs.Filling.{split}
 use Rattle.curve.specs.Segments.{Inside}
 use Rattle.rows.specs.Rows.{lowestFirst, byteCell, Drawn}
 use Rattle.rows.specs.Strides.{groupsOf}

@@ -15,7 +15,7 @@ use Rattle.timing.specs.declared.Timing.{Timing}
 use Rattle.curve.specs.Segments.{Inside}
 use Rattle.lane.specs.declared.lanes.Voice.{Voice}
 use Rattle.lane.specs.Voices as Voices
-use Rattle.envelope.proofs.Fill.{split}
+use Rattle.filled.proofs.Filling.{split}
 use Rattle.bank.specs.declared.banks.EnvelopeBank.{EnvelopeBank}
 use Rattle.bank.specs.Banks.{voice, size, arrange, put, onAll, withTiming, frames}
 use Rattle.bank.specs.Parts.{followed}

@@ -8,11 +8,11 @@ use native.Mathlib.Omega.{arith}
 use borrow.Author.Tests.{lt-ltb, le-ltb}
 use lib.Dec.{ltb}
 use lib.Ieee.{Float, nan, binary32, add, mul, ofBits}
-use lib.ListN.{length, getD, replicate}
+use lib.ListN.{length, getD}
 use Rattle.numbers.specs.Constants as Constants
 use Rattle.curve.specs.Segments.{uAfter}
-use Rattle.envelope.specs.Parts.{Filled}
-use Rattle.envelope.proofs.Fill.{split, filled-none}
+use Rattle.filled.specs.Filled.{Filled}
+use Rattle.filled.proofs.Filling.{split, filled-none}
 use Rattle.rows.specs.Rows.{movedAt, drawnAt, laneAt, fitting, Loaded, GroupLoaded, GroupDrawn, Drawn}
 use Rattle.rows.proofs.RowsDrawn.{Told}
 

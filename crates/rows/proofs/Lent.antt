@@ -6,7 +6,7 @@ use native.Mathlib.Omega.{arith}
 use borrow.Rule.Slice.PartMut.{midOf, putMid}
 use lib.ListN.{length, getD, take, drop, length-drop, drop-of-length-le, List·getD-append}
 use lib.Seq.{take-all, getD-append-add, getD-take, getD-drop, length-take-le}
-use Rattle.envelope.specs.Parts.{Filled}
+use Rattle.filled.specs.Filled.{Filled}
 
 module _ {A : Type 0} (z : A) (at : ℕ) (o p′ : List A) (h : at ≤ length o) where
   head-long : length (take at o) ≡ at

@@ -7,8 +7,8 @@ use native.Mathlib.Omega.{arith}
 use lib.Ieee.{Float, nan, binary32, toBits}
 use lib.ListN.{length, getD, set, length-set}
 use lib.Seq.{sets, getD-set-same, getD-set-other}
-use Rattle.envelope.specs.Parts.{Filled}
-use Rattle.envelope.proofs.Fill.{split, filled-on}
+use Rattle.filled.specs.Filled.{Filled}
+use Rattle.filled.proofs.Filling.{split, filled-on}
 use Rattle.rows.specs.Rows.{lowestFirst, floatCell, byteCell}
 use Rattle.rows.proofs.RowsDrawn.{Told}
 use Rattle.rows.proofs.GroupsDrawn.{Shifts}

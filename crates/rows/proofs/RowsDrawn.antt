@@ -11,9 +11,9 @@ use borrow.Rule.Slice.PartMut.{midOf, putMid}
 use lib.Ieee.{Float, nan, binary32, add, mul}
 use lib.ListN.{length, getD, take, drop}
 use Rattle.curve.specs.Segments.{uAfter}
-use Rattle.envelope.specs.Parts.{Filled}
-use Rattle.envelope.proofs.Fill.{split}
-use Rattle.envelope.proofs.Runs.{u-next}
+use Rattle.filled.specs.Filled.{Filled}
+use Rattle.filled.proofs.Filling.{split}
+use Rattle.curve.proofs.Steps.{u-next}
 use Rattle.rows.specs.Rows.{levelsAt, stepsAt, movedAt, drawnAt, Still, NextLevels, fitting, GroupDrawn, Drawn}
 use Rattle.rows.proofs.Lent.{part-before, part-inside, part-after, rest-lent, rest-back}
 

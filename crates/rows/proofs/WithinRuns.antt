@@ -8,7 +8,7 @@ use native.Mathlib.Omega.{arith}
 use borrow.Author.Tests.{eqb-true, eqb-false, eq-eqb, ne-eqb}
 use lib.Dec.{eqb}
 use lib.ListN.{getD}
-use Rattle.envelope.proofs.Fill.{split}
+use Rattle.filled.proofs.Filling.{split}
 use Rattle.rows.specs.Runs.{shortest, nextEnded}
 
 pub shortest-few : (n : ℕ) (left : List ℕ) (frames : ℕ) → shortest n left frames ≤ frames

@@ -8,7 +8,7 @@ use lib.ListN.{length, getD, replicate}
 use lib.Ieee.{Float, nan, binary32, add, mul, toBits}
 use Rattle.numbers.specs.Constants as Constants
 use Rattle.curve.specs.Segments.{uAfter}
-use Rattle.envelope.specs.Parts.{Filled}
+use Rattle.filled.specs.Filled.{Filled}
 
 -- ---- lanes
 

@@ -8,7 +8,7 @@ ghost use Prim.Native.Nat.{_+_, _-_, _≤_};
 ghost use lib.Dec.{ltb};
 ghost use lib.Ieee.{nan};
 ghost use lib.ListN.{length, getD};
-ghost use Rattle.envelope.specs.Parts.{Filled};
+ghost use Rattle.filled.specs.Filled.{Filled};
 ghost use Rattle.rows.specs.Rows as Rows;
 
 // u of 64 lanes after some rows.

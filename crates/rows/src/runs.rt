@@ -4,7 +4,7 @@ ghost use mathlib.Core.Path.{_≡_};
 ghost use Prim.Native.Nat.{_-_, _≤_, min, max};
 ghost use lib.ListN.{getD};
 ghost use Rattle.curve.specs.Segments.{untimed};
-ghost use Rattle.envelope.specs.Parts.{Filled};
+ghost use Rattle.filled.specs.Filled.{Filled};
 ghost use Rattle.rows.specs.Runs as Runs;
 use crate::strides::count;
 use curve::UNTIMED;

@@ -2,7 +2,7 @@
 ghost use Prim.Native.Nat.{_+_, _*_, _≤_, min};
 ghost use lib.Ieee.{nan};
 ghost use lib.ListN.{length, getD};
-ghost use Rattle.envelope.specs.Parts.{Filled};
+ghost use Rattle.filled.specs.Filled.{Filled};
 ghost use Rattle.rows.specs.Rows as Rows;
 ghost use Rattle.rows.specs.Strides as Strides;
 use crate::lanes::Group;

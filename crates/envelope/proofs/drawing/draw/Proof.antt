@@ -5,9 +5,10 @@ use borrow.Author.Needs.{needs}
 use lib.Ieee.{Float, nan, binary32, add, mul}
 use lib.ListN.{length}
 use Rattle.curve.specs.Segments.{uAfter}
-use Rattle.envelope.specs.Parts.{Filled, levelAfter}
-use Rattle.envelope.proofs.Fill.{filled-none, filled-more}
-use Rattle.envelope.proofs.Runs.{u-next}
+use Rattle.filled.specs.Filled.{Filled}
+use Rattle.envelope.specs.Parts.{levelAfter}
+use Rattle.filled.proofs.Filling.{filled-none, filled-more}
+use Rattle.curve.proofs.Steps.{u-next}
 use Rattle.envelope.proofs.drawing.draw.Statement.{statement}
 use Rattle.envelope.proofs.drawing.draw.Tie as tie
 

@@ -7,8 +7,8 @@ use lib.Dec.{ltb}
 use lib.Ieee.{nan, ofBits}
 use lib.ListN.{getD}
 use Rattle.numbers.specs.Constants as Constants
-use Rattle.envelope.specs.Parts.{Filled}
-use Rattle.envelope.proofs.Fill.{filled-none, filled-more}
+use Rattle.filled.specs.Filled.{Filled}
+use Rattle.filled.proofs.Filling.{filled-none, filled-more}
 use Rattle.rows.proofs.lanes.load.Statement.{statement}
 use Rattle.rows.proofs.lanes.load.Tie as tie
 

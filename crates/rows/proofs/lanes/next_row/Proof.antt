@@ -4,8 +4,8 @@ use native.Mathlib.Omega.{arith}
 use borrow.Author.Needs.{needs}
 use lib.Ieee.{Float, nan, binary32, add, mul}
 use lib.ListN.{length, getD}
-use Rattle.envelope.specs.Parts.{Filled}
-use Rattle.envelope.proofs.Fill.{filled-none, filled-more}
+use Rattle.filled.specs.Filled.{Filled}
+use Rattle.filled.proofs.Filling.{filled-none, filled-more}
 use Rattle.rows.specs.Rows.{levelsAt, stepsAt}
 use Rattle.rows.proofs.lanes.next_row.Statement.{statement}
 use Rattle.rows.proofs.lanes.next_row.Tie as tie

@@ -6,8 +6,8 @@ use borrow.Author.Needs.{needs}
 use lib.Dec.{ltb}
 use lib.Ieee.{Float, nan}
 use lib.ListN.{getD, set}
-use Rattle.envelope.specs.Parts.{Filled}
-use Rattle.envelope.proofs.Fill.{filled-none, filled-more}
+use Rattle.filled.specs.Filled.{Filled}
+use Rattle.filled.proofs.Filling.{filled-none, filled-more}
 use Rattle.rows.proofs.lanes.store.Statement.{statement}
 use Rattle.rows.proofs.lanes.store.Tie as tie
 

@@ -3,8 +3,8 @@ use Prim.Native.Nat.{ℕ, _-_, _≤_, min}
 use native.Mathlib.Omega.{arith}
 use borrow.Author.Needs.{needs}
 use lib.ListN.{length, getD}
-use Rattle.envelope.specs.Parts.{Filled}
-use Rattle.envelope.proofs.Fill.{filled-none, filled-more}
+use Rattle.filled.specs.Filled.{Filled}
+use Rattle.filled.proofs.Filling.{filled-none, filled-more}
 use Rattle.rows.specs.Runs.{leftAfter}
 use Rattle.rows.proofs.runs.count_down.Statement.{statement}
 use Rattle.rows.proofs.runs.count_down.Tie as tie

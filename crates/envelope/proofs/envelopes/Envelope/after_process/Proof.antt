@@ -8,8 +8,9 @@ use Rattle.lane.specs.Voices.{frames}
 use Rattle.lane.specs.declared.lanes.Voice.{Voice}
 use Rattle.lane.proofs.Frames.{frames-add}
 use Rattle.envelope.specs.declared.envelopes.Envelope.{Envelope}
-use Rattle.envelope.specs.Parts.{Filled, levelAfter}
-use Rattle.envelope.proofs.Fill.{filled-none, filled-on}
+use Rattle.filled.specs.Filled.{Filled}
+use Rattle.envelope.specs.Parts.{levelAfter}
+use Rattle.filled.proofs.Filling.{filled-none, filled-on}
 use Rattle.envelope.proofs.Runs.{run-some, run-few, levelAt, all-levels, run-levels, frames-voice}
 use Rattle.envelope.proofs.envelopes.Envelope.after_process.Statement.{statement}
 use Rattle.envelope.proofs.envelopes.Envelope.after_process.Tie as tie

@@ -4,8 +4,8 @@ use native.Mathlib.Omega.{arith}
 use borrow.Author.Needs.{needs}
 use lib.Ieee.{nan}
 use lib.ListN.{length, getD}
-use Rattle.envelope.specs.Parts.{Filled}
-use Rattle.envelope.proofs.Fill.{filled-none}
+use Rattle.filled.specs.Filled.{Filled}
+use Rattle.filled.proofs.Filling.{filled-none}
 use lib.Seq.{sets}
 use Rattle.rows.specs.Rows.{lowestFirst, byteCell}
 use Rattle.rows.proofs.Places.{bytes-more}

@@ -9,7 +9,7 @@ use borrow.Author.Tests.{ltb-true, ltb-false}
 use lib.Dec.{ltb}
 use lib.ListN.{length, getD, set, length-set}
 use lib.Seq.{getD-set-same, getD-set-other}
-use Rattle.envelope.specs.Parts.{Filled}
+use Rattle.filled.specs.Filled.{Filled}
 
 pub split : (i n : ℕ) → (i < n) ⊎ (n ≤ i)
 split i n = go (ltb i n) refl

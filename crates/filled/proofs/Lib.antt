@@ -1,0 +1,2 @@
+-- Laws about lists of which a part is filled.
+pub mod Filling

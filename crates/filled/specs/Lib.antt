@@ -1,0 +1,2 @@
+-- Lists of which a part is filled.
+pub mod Filled
