@@ -1,5 +1,6 @@
 // Answers the calls of an envelope and of a bank: 88 bytes of standard input to a call. The
-// comparison with the Rust drives it, and the files stdin and stdout hold a few of the Rust's answers.
+// comparison with the Rust drives it, and so does ./worfelli, which draws pictures by it; the files
+// stdin and stdout hold a few of the Rust's answers.
 //
 // A call: its tag, the settings S at 1, the timing T at 48, as document 01's event list has them; then
 // two voices' numbers, eight bytes each, at 72 and at 80.
