@@ -1,2 +1,3 @@
--- Laws about lists of which a part is filled.
+-- Laws about lists by their elements, and about lists of which a part is filled.
+pub mod Tables
 pub mod Filling

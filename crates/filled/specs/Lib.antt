@@ -1,2 +1,3 @@
--- Lists of which a part is filled.
+-- Lists by their elements, and lists of which a part is filled.
+pub mod Tables
 pub mod Filled

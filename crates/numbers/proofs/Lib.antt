@@ -8,4 +8,5 @@ pub mod ExponentialSize
 pub mod Powers
 pub mod Logarithm
 pub mod Significand
+pub mod Bytes
 pub mod Bench

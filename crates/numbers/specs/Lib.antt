@@ -4,5 +4,6 @@ pub mod Rounded
 pub mod Limits
 pub mod Conversions
 pub mod Counts
+pub mod Bytes
 pub mod StandIns
 pub mod Parts

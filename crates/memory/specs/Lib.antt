@@ -1,0 +1,3 @@
+-- A bank's numbers, in four arrays.
+pub mod Spaced
+pub mod Memory
