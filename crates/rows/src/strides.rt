@@ -1,23 +1,12 @@
-// How many voices a bank has, and how many groups of sixteen lanes hold them.
+// How many groups of sixteen lanes hold a bank's voices.
 ghost use mathlib.Core.Path.{_≡_};
 ghost use Prim.Native.Nat.{min};
+ghost use Rattle.memory.specs.Memory as Memory;
 ghost use Rattle.rows.specs.Strides as Strides;
-
-pub const MAX_VOICES: usize = 64;
-
-// How many voices a bank has whose number of voices says `voices`: no more than there is room for.
-pub fn count(voices: usize) -> usize
-    ensures { λ r. ⌜ r ≡ min voices 64 ⌝ }
-{
-    if voices < MAX_VOICES {
-        return voices;
-    }
-    MAX_VOICES
-}
 
 // How many groups of 16 lanes hold the voices.
 pub fn groups(voices: usize) -> usize
-    ensures { λ r. ⌜ r ≡ Strides.groupsOf (min voices 64) ⌝ }
+    ensures { λ r. ⌜ r ≡ Strides.groupsOf (min voices Memory.maxVoices) ⌝ }
 {
     if voices <= 16 {
         return 1;

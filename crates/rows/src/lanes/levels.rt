@@ -3,16 +3,20 @@ ghost use Prim.Native.Nat.{_+_, _*_, _≤_, min};
 ghost use lib.Ieee.{nan};
 ghost use lib.ListN.{length, getD};
 ghost use Rattle.filled.specs.Filled.{Filled};
+ghost use Rattle.memory.specs.Memory as Memory;
 ghost use Rattle.rows.specs.Rows as Rows;
 ghost use Rattle.rows.specs.Strides as Strides;
-use crate::lanes::Group;
-use crate::lanes::Moved;
-use crate::lanes::load_group;
+use crate::lanes::BLOCK;
+use crate::lanes::constant;
+use crate::lanes::levels_of;
+use crate::lanes::load;
 use crate::lanes::next_row;
-use crate::lanes::stands;
 use crate::lanes::store;
-use crate::strides::count;
+use crate::lanes::whole;
+use crate::runs::lesser;
 use crate::strides::groups;
+use memory::Floats;
+use memory::LANES;
 
 fn put_row(row: &mut [f32], y: &[f32; 16])
     requires { ⌜ 16 ≤ length (now row) ⌝ }
@@ -25,59 +29,87 @@ fn put_row(row: &mut [f32], y: &[f32; 16])
     }
 }
 
-// The levels of sixteen lanes, from lane g on, in each of `rows` rows. Answers their u after them.
-fn draw_group(out: &mut [f32], g: usize, stride: usize, rows: u32, group: Group) -> [f32; 16]
-    requires { ⌜ (stride ≤ 64) × (g + 16 ≤ stride) × (rows * stride ≤ length (now out)) ⌝ }
-    ensures { λ u. ⌜ Rows.GroupDrawn nan 16 Rows.floatCell stride g rows (group .u) (group .r) (group .d) (group .scale) (group .base) (now (out .entry)) (now (out .exit)) u ⌝ }
+// The rows of the sixteen lanes from lane g on, which take the places from `at` on in each.
+fn draw_moving(out: &mut [f32], at: usize, stride: usize, rows: u32, f: &mut Floats, g: usize)
+    requires { ⌜ Rows.GroupFits 16 stride at rows (length (now out)) g (now f) ⌝ }
+    ensures { λ _. ⌜ Rows.GroupDrawn nan 16 Rows.floatCell stride at g rows (now (f .entry)) (now (out .entry)) (now (out .exit)) (now (f .exit)) ⌝ }
 {
-    let first = group.u;
-    let r = group.r;
-    let d = group.d;
-    let scale = group.scale;
-    let base = group.base;
-    let mut u = first;
-    let mut y = next_row(false, first, &mut u, &r, &d, &scale, &base);
-    u = first;
-    let still = stands(rows, &u, &r, &d);
-    let mut at = g;
+    let mut u = load(f, g);
+    let r = load(f, g + LANES);
+    let d = load(f, g + 2 * LANES);
+    let scale = load(f, g + 3 * LANES);
+    let base = load(f, g + 4 * LANES);
+    let mut to = at;
     let mut k = 0;
     while k < rows {
-        y = next_row(still, y, &mut u, &r, &d, &scale, &base);
-        put_row(&mut out[at..], &y);
-        at += stride;
+        let y = next_row(&mut u, &r, &d, &scale, &base);
+        put_row(&mut out[to..], &y);
+        to += stride;
         k += 1;
     }
-    u
+    store(f, g, &u);
 }
 
-// The next `rows` rows of the voices' levels, +0 in the spare lanes, from the output's first level on,
-// if it has room for them all. Answers the voices' u after them.
-pub fn draw(
-    out: &mut [f32],
-    voices: usize,
-    rows: u32,
-    u: [f32; 64],
-    r: &[f32; 64],
-    d: &[f32; 64],
-    scale: &[f32; 64],
-    base: &[f32; 64],
-) -> Moved
-    ensures { λ next. ⌜ Rows.Drawn nan 16 Rows.floatCell (Strides.groupsOf (min voices 64)) (min voices 64) (Rows.fitting rows (16 * Strides.groupsOf (min voices 64)) (length (now (out .entry)))) u (now (r .entry)) (now (d .entry)) (now (scale .entry)) (now (base .entry)) (now (out .entry)) (now (out .exit)) (next .u) ⌝ }
+// The same of lanes that stay: every row is the first.
+fn draw_still(out: &mut [f32], at: usize, stride: usize, rows: u32, f: &Floats, g: usize)
+    requires { ⌜ Rows.GroupFits 16 stride at rows (length (now out)) g (now f) × Rows.Still g (now f) ⌝ }
+    ensures { λ _. ⌜ Rows.Laid nan 16 Rows.floatCell stride at rows (λ k i. Rows.drawnAt k (now (f .entry)) (g + i)) (now (out .entry)) (now (out .exit)) ⌝ }
 {
-    let n = count(voices);
-    let groups = groups(voices);
-    let stride = 16 * groups;
-    let mut next = u;
-    if rows as usize * stride > out.len() {
-        return Moved { u: next };
+    let u = load(f, g);
+    let scale = load(f, g + 3 * LANES);
+    let base = load(f, g + 4 * LANES);
+    let y = levels_of(&u, &scale, &base);
+    let mut to = at;
+    let mut k = 0;
+    while k < rows {
+        put_row(&mut out[to..], &y);
+        to += stride;
+        k += 1;
     }
+}
+
+fn draw_group(out: &mut [f32], at: usize, stride: usize, rows: u32, f: &mut Floats, g: usize)
+    requires { ⌜ Rows.GroupFits 16 stride at rows (length (now out)) g (now f) ⌝ }
+    ensures { λ _. ⌜ Rows.GroupDrawn nan 16 Rows.floatCell stride at g rows (now (f .entry)) (now (out .entry)) (now (out .exit)) (now (f .exit)) ⌝ }
+{
+    if constant(rows, f, g) {
+        draw_still(out, at, stride, rows, f, g);
+        return;
+    }
+    draw_moving(out, at, stride, rows, f, g);
+}
+
+// Rows of one group after the other.
+fn draw_block(out: &mut [f32], f: &mut Floats, groups: usize, rows: u32)
+    requires { ⌜ (groups ≤ 4) × (rows * (16 * groups) ≤ length (now out)) × Rows.Whole (now f) ⌝ }
+    ensures { λ _. ⌜ Rows.Drawn nan 16 Rows.floatCell groups rows (now (f .entry)) (now (out .entry)) (now (out .exit)) (now (f .exit)) ⌝ }
+{
     let mut q = 0;
     while q < groups {
         let g = 16 * q;
-        let group = load_group(&next, r, d, scale, base, g, n);
-        let after = draw_group(out, g, stride, rows, group);
-        store(&mut next, g, n, after);
+        draw_group(out, g, 16 * groups, rows, f, g);
         q += 1;
     }
-    Moved { u: next }
+}
+
+// The next `rows` rows of every lane of the voices' groups, from the output's first level on, if it
+// has room for them all.
+pub fn draw(out: &mut [f32], f: &mut Floats, voices: usize, rows: u32)
+    ensures { λ _. ⌜ Rows.Drawn nan 16 Rows.floatCell (Strides.groupsOf (min voices Memory.maxVoices)) (Rows.fitting rows (16 * Strides.groupsOf (min voices Memory.maxVoices)) (length (now (out .entry)))) (now (f .entry)) (now (out .entry)) (now (out .exit)) (now (f .exit)) ⌝ }
+{
+    whole(f);
+    let groups = groups(voices);
+    let stride = 16 * groups;
+    if rows as usize * stride > out.len() {
+        return;
+    }
+    let most = BLOCK / groups as u32;
+    let mut at = 0;
+    let mut done = 0;
+    while done < rows {
+        let n = lesser(rows - done, most);
+        draw_block(&mut out[at..], f, groups, n);
+        at += n as usize * stride;
+        done += n;
+    }
 }

@@ -1,57 +1,38 @@
-use mathlib.Core.Path.{_≡_, ap, ap₂, _∙_, subst}
-use mathlib.Core.Bool.{cond}
+-- `store` meets its contract. The loop's invariant: the first i numbers are put.
+use mathlib.Core.Path.{_≡_, ap, subst}
 use Prim.Native.Nat.{ℕ, _+_, _-_, _≤_}
 use native.Mathlib.Omega.{arith}
-use borrow.Author.Needs.{needs}
-use lib.Dec.{ltb}
-use lib.Ieee.{Float, nan}
-use lib.ListN.{getD, set}
+use lib.Ieee.{nan}
+use lib.ListN.{getD}
 use Rattle.filled.specs.Filled.{Filled}
-use Rattle.filled.proofs.Filling.{filled-none, filled-more}
+use Rattle.rows.proofs.FilledFrom.{from-none, from-more}
+use borrow.Author.Needs.{needs}
 use Rattle.rows.proofs.lanes.store.Statement.{statement}
 use Rattle.rows.proofs.lanes.store.Tie as tie
 
 abbrev Inv-loop : tie.InvT-loop
-Inv-loop a₀ g voices x i₀ a i = (i ≤ 16) × Filled nan (λ j. cond (ltb j voices) (getD x (j - g) nan) (getD a₀ j nan)) g (g + i) a₀ a
+Inv-loop f₀ to x i₀ f i = (i ≤ 16) × Filled nan (λ j. getD x (j - to) nan) to (to + i) f₀ f
 
 abbrev μ-loop : tie.MeasureT-loop
-μ-loop a₀ g voices x i₀ a i = 16 - i
+μ-loop f₀ to x i₀ f i = 16 - i
 
 loop-holds : tie.Need-loop-holds Inv-loop μ-loop
-loop-holds c =
-    let a = c .args in
-    let f : ℕ → Float = λ j. cond (ltb j (a .voices)) (getD (a .t4) (j - a .g) nan) (getD (a .a .now) j nan) in
-    (search needs, subst (λ (e : ℕ). Filled nan f (a .g) e (a .a .now) (a .a .now)) (omega arith) (filled-none nan f (a .g) (a .a .now)))
+loop-holds c = (search needs, from-none nan _ _ _)
 
-add-kept : tie.Need-add-kept Inv-loop μ-loop
-add-kept c = search needs
+mul-f : tie.Need-mul-f Inv-loop μ-loop
+mul-f c = search needs
 
-mul-kept : tie.Need-mul-kept Inv-loop μ-loop
-mul-kept c = search needs
+element-copy-out-f : tie.Need-element-copy-out-f Inv-loop μ-loop
+element-copy-out-f c = search needs
 
-element-copy-out-kept : tie.Need-element-copy-out-kept Inv-loop μ-loop
-element-copy-out-kept c = search needs
+add-f : tie.Need-add-f Inv-loop μ-loop
+add-f c = search needs
 
-add-pick : tie.Need-add-pick Inv-loop μ-loop
-add-pick c = search needs
+mul-f-2 : tie.Need-mul-f-2 Inv-loop μ-loop
+mul-f-2 c = search needs
 
-mul-pick : tie.Need-mul-pick Inv-loop μ-loop
-mul-pick c = search needs
-
-array-read-pick : tie.Need-array-read-pick Inv-loop μ-loop
-array-read-pick c = search needs
-
-pick-requires : tie.Need-pick-requires Inv-loop μ-loop
-pick-requires c κs = search needs
-
-add-a : tie.Need-add-a Inv-loop μ-loop
-add-a c = search needs
-
-mul-a : tie.Need-mul-a Inv-loop μ-loop
-mul-a c = search needs
-
-element-write-a : tie.Need-element-write-a Inv-loop μ-loop
-element-write-a c = search needs
+element-write-f : tie.Need-element-write-f Inv-loop μ-loop
+element-write-f c = search needs
 
 add-i : tie.Need-add-i Inv-loop μ-loop
 add-i c = search needs
@@ -61,29 +42,17 @@ loop-less c = search needs
 
 loop-again : tie.Need-loop-again Inv-loop μ-loop
 loop-again c =
-    let c₃ = c .before .before .before in
-    let c₄ = c₃ .before in
-    let a = c₄ .args in
-    let l = c₃ .loop in
-    let q = c .pick in
-    let f : ℕ → Float = λ j. cond (ltb j (a .voices)) (getD (a .t4) (j - a .g) nan) (getD (a .a .now) j nan) in
-    let kept : getD (l .a) (a .g + l .i) nan ≡ getD (a .a .now) (a .g + l .i) nan = l .inv .1 .after (a .g + l .i) (omega arith) in
-    let at : l .i ≡ a .g + l .i - a .g = omega arith in
-    let w : q .result ≡ f (a .g + l .i) =
-    q .ensures ∙ ap₂ (λ (x y : Float). cond (ltb (a .g + l .i) (a .voices)) x y) (ap (λ (i : ℕ). getD (a .t4) i nan) at) kept
-    in (
-      search needs,
-      subst (λ (e : ℕ). Filled nan f (a .g) e (a .a .now) (set (l .a) (a .g + l .i) (q .result))) (omega arith)
-          (filled-more nan f (a .g) (a .g + l .i) (a .a .now) (l .a) (q .result) (omega arith) (omega arith) w (l .inv .1)),
-    )
+    let a = c .before .before .before .args in
+    let l = c .before .before .loop in
+    let at : l .i ≡ a .to + l .i - a .to = omega arith in
+    (search needs, from-more nan _ (a .to) (l .i) _ (l .f) _ (omega arith) (ap (λ (i : ℕ). getD (a .x .now) i nan) at) (l .inv .1))
 
 returns : tie.Need-returns Inv-loop μ-loop
 returns c =
     let a = c .before .before .args in
     let l = c .before .loop in
-    let f : ℕ → Float = λ j. cond (ltb j (a .voices)) (getD (a .t4) (j - a .g) nan) (getD (a .a .now) j nan) in
     let e : l .i ≡ 16 = omega arith in
-    subst (λ (n : ℕ). Filled nan f (a .g) (a .g + n) (a .a .now) (l .a)) e (l .inv .1)
+    subst (λ (n : ℕ). Filled nan (λ j. getD (a .x .now) (j - a .to) nan) (a .to) (a .to + n) (a .f .now) (l .f)) e (l .inv .1)
 
 pub store-spec : {M : Type 1} → statement M
 store-spec =
@@ -92,16 +61,11 @@ store-spec =
     Inv-loop
     μ-loop
     loop-holds
-    add-kept
-    mul-kept
-    element-copy-out-kept
-    add-pick
-    mul-pick
-    array-read-pick
-    pick-requires
-    add-a
-    mul-a
-    element-write-a
+    mul-f
+    element-copy-out-f
+    add-f
+    mul-f-2
+    element-write-f
     add-i
     loop-less
     loop-again

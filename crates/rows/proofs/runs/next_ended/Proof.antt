@@ -1,3 +1,4 @@
+-- `next_ended` meets its contract. The loop's invariant: the search from `first` on answers what the search from v on does.
 use mathlib.Core.Path.{_≡_, refl, sym, ap, _∙_}
 use Prim.Native.Nat.{ℕ, _+_, _-_, _<_}
 use native.Mathlib.Omega.{arith}
@@ -8,10 +9,10 @@ use Rattle.rows.proofs.runs.next_ended.Statement.{statement}
 use Rattle.rows.proofs.runs.next_ended.Tie as tie
 
 abbrev Inv-loop : tie.InvT-loop
-Inv-loop left voices first n v₀ v = Runs.nextEnded (n - first) left first ≡ Runs.nextEnded (n - v) left v
+Inv-loop c voices first end v₀ v = Runs.nextEnded (end - first) c first ≡ Runs.nextEnded (end - v) c v
 
 abbrev μ-loop : tie.MeasureT-loop
-μ-loop left voices first n v₀ v = n - v
+μ-loop c voices first end v₀ v = end - v
 
 count-requires : tie.Need-count-requires Inv-loop μ-loop
 count-requires c κs = search needs
@@ -32,9 +33,9 @@ returns c =
     let l = c .before .before .before .loop in
     let more : 0 < c₄ .count .result - l .v = omega (arith, c .before .before .loop-test .taken) in
     sym
-    (ap (λ (n : ℕ). Runs.nextEnded (n - a .first) (a .left .now) (a .first)) (sym (c₄ .count .ensures))
+    (ap (λ (n : ℕ). Runs.nextEnded (n - a .first) (a .c .now) (a .first)) (sym (c₄ .count .ensures))
     ∙ l .inv
-    ∙ next-here (c₄ .count .result - l .v) (a .left .now) (l .v) more (c .if1 .taken))
+    ∙ next-here (c₄ .count .result - l .v) (a .c .now) (l .v) more (c .if1 .taken))
 
 add-v : tie.Need-add-v Inv-loop μ-loop
 add-v c = search needs
@@ -50,8 +51,8 @@ loop-again c =
     let more : 0 < c₄ .count .result - l .v = omega (arith, c .before .before .loop-test .taken) in
     let less : c₄ .count .result - l .v - 1 ≡ c₄ .count .result - (l .v + 1) = omega arith in
     l .inv
-    ∙ next-on (c₄ .count .result - l .v) (a .left .now) (l .v) more (c .if1 .left)
-    ∙ ap (λ (m : ℕ). Runs.nextEnded m (a .left .now) (l .v + 1)) less
+    ∙ next-on (c₄ .count .result - l .v) (a .c .now) (l .v) more (c .if1 .left)
+    ∙ ap (λ (m : ℕ). Runs.nextEnded m (a .c .now) (l .v + 1)) less
 
 returns-2 : tie.Need-returns-2 Inv-loop μ-loop
 returns-2 c =
@@ -60,9 +61,9 @@ returns-2 c =
     let l = c .before .loop in
     let none : c₂ .count .result - l .v ≡ 0 = omega (arith, c .loop-test .left) in
     sym
-    (ap (λ (n : ℕ). Runs.nextEnded (n - a .first) (a .left .now) (a .first)) (sym (c₂ .count .ensures))
+    (ap (λ (n : ℕ). Runs.nextEnded (n - a .first) (a .c .now) (a .first)) (sym (c₂ .count .ensures))
     ∙ l .inv
-    ∙ next-none (c₂ .count .result - l .v) (a .left .now) (l .v) none)
+    ∙ next-none (c₂ .count .result - l .v) (a .c .now) (l .v) none)
 
 pub next-ended-spec : {M : Type 1} → statement M
 next-ended-spec =

@@ -1,38 +1,64 @@
-use mathlib.Core.Path.{_≡_, refl, _∙_, subst}
-use Prim.Native.Nat.{ℕ, _-_, _*_, _≤_}
+-- `draw_bytes` meets its contract. The loop's invariant: the first rows, `done` of them, are drawn.
+use mathlib.Core.Path.{_≡_, sym, ap, _∙_, subst}
+use Prim.Native.Nat.{ℕ, _+_, _-_, _*_, _≤_}
 use native.Mathlib.Omega.{arith}
-use native.Mathlib.Nat.{mul-le-mul-left}
-use borrow.Author.Needs.{needs}
+use native.Mathlib.Nat.{add-mul, mul-le-mul-left}
 use lib.ListN.{length}
-use Rattle.rows.specs.Rows.{byteCell}
-use Rattle.rows.proofs.GroupsDrawn.{GroupsDrawn, groups-none, groups-more, groups-all, drawn-fitting, drawn-none}
-use Rattle.rows.proofs.Places.{byte-told, byte-shifts}
+use Rattle.rows.specs.Rows.{Whole, byteCell, Drawn}
+use Rattle.rows.proofs.Places.{byte-told}
+use Rattle.rows.proofs.RowsDrawn.{run-fits}
+use Rattle.rows.proofs.BlocksDrawn.{block-rows, drawn-nothing, drawn-on, drawn-fitting, drawn-none}
+use borrow.Author.Needs.{needs}
 use Rattle.rows.proofs.lanes.bytes.draw_bytes.Statement.{statement}
 use Rattle.rows.proofs.lanes.bytes.draw_bytes.Tie as tie
 
 abbrev Inv-loop : tie.InvT-loop
-Inv-loop out₀ voices rows r d scale base n groups stride next₀ q₀ out next q =
-    (q ≤ groups)
+Inv-loop out₀ f₀ voices rows groups stride most at₀ done₀ out f at done =
+    (done ≤ rows)
+    × (at ≡ done * stride)
     × (length out ≡ length out₀)
-    × (length next ≡ 64)
-    × GroupsDrawn 0 64 byteCell stride q n rows next₀ r d scale base out₀ out next
+    × Whole f
+    × Drawn 0 64 byteCell groups done f₀ out₀ out f
 
 abbrev μ-loop : tie.MeasureT-loop
-μ-loop out₀ voices rows r d scale base n groups stride next₀ q₀ out next q = groups - q
+μ-loop out₀ f₀ voices rows groups stride most at₀ done₀ out f at done = rows - done
 
--- The voices, and the groups that hold them.
-grouped : (c : tie.After-groups Inv-loop μ-loop)
-    → (1 ≤ c .groups .result) × (c .groups .result ≤ 4) × (c .before .count .result ≤ 16 * c .groups .result)
+-- ---- places: from a block back to the loop, and from there to the groups and the start
+
+abbrev loop-of : tie.After-lesser Inv-loop μ-loop → tie.At-loop Inv-loop μ-loop
+loop-of c = c .before .before
+
+abbrev groups-of : tie.At-loop Inv-loop μ-loop → tie.After-groups Inv-loop μ-loop
+groups-of l = l .before .before
+
+abbrev start-of : tie.After-groups Inv-loop μ-loop → tie.Start Inv-loop μ-loop
+start-of g = g .before .before .before .before .before
+
+grouped : (c : tie.After-groups Inv-loop μ-loop) → (1 ≤ c .groups .result) × (c .groups .result ≤ 4)
 grouped c =
-    let n = c .before .count .ensures in
     let e = c .groups .ensures in
-    (omega arith, omega arith, omega arith)
+    (omega arith, omega arith)
 
-small : (c : tie.In-loop Inv-loop μ-loop) → 16 * c .before .loop .q ≤ 48
-small c = omega (arith, grouped (c .before .before .before), c .loop-test .taken)
+-- A block has rows, no more than are left.
+some : (c : tie.After-lesser Inv-loop μ-loop) → (1 ≤ c .lesser .result) × (loop-of c .loop .done + c .lesser .result ≤ start-of (groups-of (loop-of c)) .args .rows)
+some c =
+    let g = groups-of (loop-of c) in
+    let b = block-rows (g .groups .result) (grouped g .0) (grouped g .1) in
+    let t = c .before .loop-test .taken in
+    (omega (arith, b, t, c .lesser .ensures), omega (arith, t, c .lesser .ensures))
 
-count-requires : tie.Need-count-requires Inv-loop μ-loop
-count-requires c κs = search needs
+-- And room.
+room : (c : tie.After-lesser Inv-loop μ-loop)
+    → loop-of c .loop .at + c .lesser .result * (64 * groups-of (loop-of c) .groups .result) ≤ length (loop-of c .loop .out)
+room c =
+    let L = loop-of c in
+    let g = groups-of L in
+    let l = L .loop in
+    let r = run-fits (l .done) (c .lesser .result) (start-of g .args .rows) (64 * g .groups .result) (some c .1) in
+    omega (arith, r, l .inv .1, l .inv .2, L .before .if1 .left)
+
+whole-requires : tie.Need-whole-requires Inv-loop μ-loop
+whole-requires c κs = search needs
 
 groups-requires : tie.Need-groups-requires Inv-loop μ-loop
 groups-requires c κs = search needs
@@ -42,57 +68,84 @@ mul-stride c = record { fits = omega (arith, grouped c) }
 
 mul-if1 : tie.Need-mul-if1 Inv-loop μ-loop
 mul-if1 c =
-    let s = c .before .before .before in
+    let s = start-of c in
     let h : 64 * c .groups .result ≤ 256 = omega (arith, grouped c) in
-    record { fits = omega (arith, mul-le-mul-left (s .args .rows) h, s .good .1 .1 .0) }
+    record { fits = omega (arith, mul-le-mul-left (s .args .rows) h, s .good .1 .1 .1 .0) }
 
 returns : tie.Need-returns Inv-loop μ-loop
 returns c =
     let g = c .before in
-    let a = g .before .before .before .args in
-    drawn-none 0 64 byteCell (g .groups .result) _ _ (a .rows) (a .u) _ _ _ _ (a .out .now) (g .groups .ensures) (c .if1 .taken)
+    let a = start-of g .args in
+    drawn-none 0 64 byteCell (g .groups .result) _ (a .rows) (a .f .now) (a .out .now) (g .groups .ensures) (c .if1 .taken)
+
+cast-most : tie.Need-cast-most Inv-loop μ-loop
+cast-most c = omega (arith, grouped (c .before))
+
+div-most : tie.Need-div-most Inv-loop μ-loop
+div-most c = omega (arith, grouped (c .before))
 
 loop-holds : tie.Need-loop-holds Inv-loop μ-loop
-loop-holds c = (search needs, search needs, c .before .before .before .before .good .1 .1 .1 .0 .1 .0 .1, groups-none 0 64 byteCell _ _ _ _ _ _ _ _ _)
+loop-holds c = (search needs, search needs, search needs, c .before .before .whole .ensures, drawn-nothing 0 64 byteCell _ _ _)
 
-mul-g : tie.Need-mul-g Inv-loop μ-loop
-mul-g c = search needs
+sub-lesser : tie.Need-sub-lesser Inv-loop μ-loop
+sub-lesser c = search needs
 
-load-group-requires : tie.Need-load-group-requires Inv-loop μ-loop
-load-group-requires c κs = small (c .before)
+lesser-requires : tie.Need-lesser-requires Inv-loop μ-loop
+lesser-requires c κs = search needs
 
-mul-draw-group : tie.Need-mul-draw-group Inv-loop μ-loop
-mul-draw-group c = search needs
+sub-draw-block : tie.Need-sub-draw-block Inv-loop μ-loop
+sub-draw-block c = omega (arith, room c)
 
-draw-group-requires : tie.Need-draw-group-requires Inv-loop μ-loop
-draw-group-requires c κs =
-    let c₃ = c .before .before .before in
-    let g = c₃ .before .before .before in
-    (omega (arith, grouped g), omega (arith, grouped g, c₃ .loop-test .taken), omega (arith, c₃ .before .before .if1 .left, c₃ .before .loop .inv .1))
+part-draw-block-start : tie.Need-part-draw-block-start Inv-loop μ-loop
+part-draw-block-start c = sub-draw-block c
 
-store-requires : tie.Need-store-requires Inv-loop μ-loop
-store-requires c κs = (small (c .before .before .before .before .before .before .before), c .before .before .before .before .before .before .before .before .loop .inv .2)
+part-draw-block-end : tie.Need-part-draw-block-end Inv-loop μ-loop
+part-draw-block-end c = search needs
 
-add-q : tie.Need-add-q Inv-loop μ-loop
-add-q c = search needs
+draw-block-requires : tie.Need-draw-block-requires Inv-loop μ-loop
+draw-block-requires c κs =
+    let c₂ = c .before .before in
+    let L = loop-of c₂ in
+    (grouped (groups-of L) .1, omega (arith, room c₂, c .before .draw-block-arg .given), L .loop .inv .3)
+
+cast-at : tie.Need-cast-at Inv-loop μ-loop
+cast-at c = search needs
+
+mul-at : tie.Need-mul-at Inv-loop μ-loop
+mul-at c =
+    let c₅ = c .before .before .before .before .before in
+    record { fits = omega (arith, room c₅, start-of (groups-of (loop-of c₅)) .good .0) }
+
+add-at : tie.Need-add-at Inv-loop μ-loop
+add-at c =
+    let c₅ = c .before .before .before .before .before in
+    record { fits = omega (arith, room c₅, start-of (groups-of (loop-of c₅)) .good .0) }
+
+add-done : tie.Need-add-done Inv-loop μ-loop
+add-done c =
+    let c₅ = c .before .before .before .before .before in
+    record { fits = omega (arith, some c₅ .1, start-of (groups-of (loop-of c₅)) .good .1 .1 .1 .0) }
 
 loop-less : tie.Need-loop-less Inv-loop μ-loop
-loop-less c = search needs
+loop-less c =
+    let c₅ = c .before .before .before .before .before in
+    omega (arith, some c₅ .0, some c₅ .1)
 
 loop-again : tie.Need-loop-again Inv-loop μ-loop
 loop-again c =
-    let c₈ = c .before .before .before .before .before .before .before .before in
-    let a = c₈ .before .before .before .before .before .before .args in
-    let l = c₈ .before .loop in
-    let x = c .before .before .before .before .before .before .load-group in
-    let w = c .before .before .before .before .draw-group in
-    let s = c .store in (
-      omega (arith, c₈ .loop-test .taken),
-      w .kept .0 ∙ l .inv .1,
-      s .ensures .same ∙ l .inv .2,
-      groups-more 0 64 byteCell byte-told byte-shifts _ (l .q) _ (a .rows) (16 * l .q) (a .u) (l .next) (a .r .now) (a .d .now) (a .scale .now) (a .base .now) (a .out .now) (l .out) _
-          (x .result .u) (x .result .r) (x .result .d) (x .result .scale) (x .result .base)
-          (w .result) _ refl (l .inv .3) (x .ensures) (w .ensures) (s .ensures),
+    let c₅ = c .before .before .before .before .before in
+    let L = loop-of c₅ in
+    let g = groups-of L in
+    let a = start-of g .args in
+    let l = L .loop in
+    let n = c₅ .lesser .result in
+    let w = c .before .before .draw-block in (
+      some c₅ .1,
+      ap (λ (x : ℕ). x + n * (64 * g .groups .result)) (l .inv .1) ∙ sym (add-mul (l .done) n (64 * g .groups .result)),
+      omega (arith, c .before .out .given, w .kept, l .inv .2),
+      w .ensures .moved .same ∙ l .inv .3,
+      drawn-on 0 64 byteCell byte-told (g .groups .result) (l .done) n (l .at) (grouped g .1) (a .f .now) (l .f) _ (a .out .now) (l .out) _ (l .inv .1)
+          (omega (arith, room c₅)) (l .inv .4) (w .ensures),
     )
 
 same-length : tie.Need-same-length Inv-loop μ-loop
@@ -100,15 +153,13 @@ same-length c = search needs
 
 returns-2 : tie.Need-returns-2 Inv-loop μ-loop
 returns-2 c =
-    let g = c .before .before .before in
-    let a = g .before .before .before .args in
-    let l = c .before .loop in
-    let e : l .q ≡ g .groups .result = omega (arith, c .loop-test .left, l .inv .0) in
-    drawn-fitting 0 64 byteCell (g .groups .result) (g .before .count .result) _ _ (a .rows) (a .u) (a .r .now) (a .d .now) (a .scale .now) (a .base .now) (a .out .now) (l .out) (l .next)
-    (g .groups .ensures) (g .before .count .ensures) (omega (arith, c .before .before .if1 .left))
-    (groups-all 0 64 byteCell (g .groups .result) (g .before .count .result) (a .rows) (a .u) (a .r .now) (a .d .now) (a .scale .now) (a .base .now) (a .out .now) (l .out) (l .next)
-    (grouped g .2) (l .inv .1)
-    (subst (λ (q : ℕ). GroupsDrawn 0 64 byteCell (64 * g .groups .result) q (g .before .count .result) (a .rows) (a .u) (a .r .now) (a .d .now) (a .scale .now) (a .base .now) (a .out .now) (l .out) (l .next)) e (l .inv .3)))
+    let L = c .before in
+    let g = groups-of L in
+    let a = start-of g .args in
+    let l = L .loop in
+    let e : l .done ≡ a .rows = omega (arith, c .loop-test .left, l .inv .0) in
+    drawn-fitting 0 64 byteCell (g .groups .result) _ (a .rows) (a .f .now) (a .out .now) (l .out) (l .f) (g .groups .ensures) (omega (arith, L .before .if1 .left))
+    (subst (λ (n : ℕ). Drawn 0 64 byteCell (g .groups .result) n (a .f .now) (a .out .now) (l .out) (l .f)) e (l .inv .4))
 
 pub draw-bytes-spec : {M : Type 1} → statement M
 draw-bytes-spec =
@@ -116,18 +167,24 @@ draw-bytes-spec =
     (tie.spec
     Inv-loop
     μ-loop
-    count-requires
+    whole-requires
     groups-requires
     mul-stride
     mul-if1
     returns
+    cast-most
+    div-most
     loop-holds
-    mul-g
-    load-group-requires
-    mul-draw-group
-    draw-group-requires
-    store-requires
-    add-q
+    sub-lesser
+    lesser-requires
+    sub-draw-block
+    part-draw-block-start
+    part-draw-block-end
+    draw-block-requires
+    cast-at
+    mul-at
+    add-at
+    add-done
     loop-less
     loop-again
     same-length

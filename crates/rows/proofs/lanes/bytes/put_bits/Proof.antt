@@ -1,3 +1,4 @@
+-- `put_bits` meets its contract: the four stores are the four bytes.
 use native.Mathlib.Omega.{arith}
 use native.Mathlib.Numerals.{unary-clauses}
 use lib.ListN.{length-set}

@@ -1,14 +1,16 @@
+-- `put_row` meets its contract. The loop's invariant: the bytes of the first i levels are put.
 use mathlib.Core.Path.{_≡_, ap, _∙_, subst}
 use Prim.Native.Nat.{ℕ, _*_, _-_, _≤_}
 use native.Mathlib.Omega.{arith}
-use borrow.Author.Needs.{needs}
-use lib.Ieee.{nan}
+use lib.Ieee.{nan, binary32, toBits}
 use lib.ListN.{length, getD}
+use lib.Seq.{sets}
+use Rattle.numbers.specs.Bytes.{lowestFirst}
 use Rattle.filled.specs.Filled.{Filled}
 use Rattle.filled.proofs.Filling.{filled-none}
-use lib.Seq.{sets}
-use Rattle.rows.specs.Rows.{lowestFirst, byteCell}
+use Rattle.rows.specs.Rows.{byteCell}
 use Rattle.rows.proofs.Places.{bytes-more}
+use borrow.Author.Needs.{needs}
 use Rattle.rows.proofs.lanes.bytes.put_row.Statement.{statement}
 use Rattle.rows.proofs.lanes.bytes.put_row.Tie as tie
 
@@ -47,8 +49,12 @@ loop-again c =
     let c₇ = c .before .before .before .before .before .before .before in
     let l = c₇ .loop in
     let a = c₇ .before .before .args in
-    let e = c .before .before .before .before .f32-to-bits .ensures in
-    (search needs, search needs, bytes-more (λ j. getD (a .y .now) j nan) (l .i) _ (l .row) _ (omega arith) (l .inv .2) (c .before .before .put-bits .ensures ∙ ap (λ (n : ℕ). sets (l .row) (4 * l .i) (lowestFirst 4 n)) e))
+    let e = c .before .before .before .before .f32-to-bits .ensures in (
+      search needs,
+      search needs,
+      bytes-more (λ j. toBits binary32 (getD (a .y .now) j nan)) (l .i) _ (l .row) _ (omega arith) (l .inv .2)
+          (c .before .before .put-bits .ensures ∙ ap (λ (n : ℕ). sets (l .row) (4 * l .i) (lowestFirst 4 n)) e),
+    )
 
 same-length : tie.Need-same-length Inv-loop μ-loop
 same-length c = search needs

@@ -1,12 +1,13 @@
+-- `put_row` meets its contract. The loop's invariant: the first i levels are put.
 use mathlib.Core.Path.{_≡_, refl, subst}
 use Prim.Native.Nat.{ℕ, _-_, _≤_}
 use native.Mathlib.Omega.{arith}
-use borrow.Author.Needs.{needs}
 use lib.Ieee.{nan}
 use lib.ListN.{length, getD}
 use Rattle.filled.specs.Filled.{Filled}
 use Rattle.filled.proofs.Filling.{filled-none, filled-more}
 use Rattle.rows.specs.Rows.{floatCell}
+use borrow.Author.Needs.{needs}
 use Rattle.rows.proofs.lanes.levels.put_row.Statement.{statement}
 use Rattle.rows.proofs.lanes.levels.put_row.Tie as tie
 
@@ -39,7 +40,6 @@ loop-less c = search needs
 
 loop-again : tie.Need-loop-again Inv-loop μ-loop
 loop-again c =
-    let c₃ = c .before .before .before in
     let l = c .before .before .loop in
     (search needs, search needs, filled-more nan _ 0 (l .i) _ (l .row) _ (omega arith) (omega arith) refl (l .inv .2))
 

@@ -1,27 +1,26 @@
-use mathlib.Core.Path.{_≡_, ap, ap₂, _∙_, subst}
+-- `until_end` meets its contract. The loop's invariant: the run is as long as the first v voices let it be.
+use mathlib.Core.Path.{_≡_, refl, ap, ap₂, _∙_, subst}
 use Prim.Native.Nat.{ℕ, _-_, _≤_, min}
 use native.Mathlib.Omega.{arith}
 use native.Mathlib.Numerals.{add-one}
 use borrow.Author.Count.{below-more}
-use borrow.Author.Needs.{needs}
+use Rattle.memory.specs.Memory.{maxVoices}
 use Rattle.rows.specs.Runs as Runs
-use Rattle.rows.proofs.runs.shortest.Statement.{statement}
-use Rattle.rows.proofs.runs.shortest.Tie as tie
+use borrow.Author.Needs.{needs}
+use Rattle.rows.proofs.runs.until_end.Statement.{statement}
+use Rattle.rows.proofs.runs.until_end.Tie as tie
 
 abbrev Inv-loop : tie.InvT-loop
-Inv-loop left voices frames n run₀ v₀ run v = (v ≤ n) × (run ≡ Runs.shortest v left (min frames Runs.most)) × Runs.Counts v left
+Inv-loop c voices n run₀ v₀ run v = (v ≤ n) × (run ≡ Runs.untilEnd v c) × Runs.Counts v c
 
 abbrev μ-loop : tie.MeasureT-loop
-μ-loop left voices frames n run₀ v₀ run v = n - v
+μ-loop c voices n run₀ v₀ run v = n - v
 
 count-requires : tie.Need-count-requires Inv-loop μ-loop
 count-requires c κs = search needs
 
-at-most-requires : tie.Need-at-most-requires Inv-loop μ-loop
-at-most-requires c κs = search needs
-
 loop-holds : tie.Need-loop-holds Inv-loop μ-loop
-loop-holds c = (search needs, c .at-most .ensures, λ v h. absurd (omega arith))
+loop-holds c = (search needs, refl, λ v h. absurd (omega arith))
 
 mul-at-least-one : tie.Need-mul-at-least-one Inv-loop μ-loop
 mul-at-least-one c = search needs
@@ -49,19 +48,18 @@ loop-again c =
 
 returns : tie.Need-returns Inv-loop μ-loop
 returns c =
-    let a = c .before .before .before .before .args in
+    let a = c .before .before .before .args in
     let l = c .before .loop in
-    let e : l .v ≡ min (a .voices) 64 = omega (arith, c .before .before .before .count .ensures) in
-    (l .inv .1 ∙ ap (λ (n : ℕ). Runs.shortest n (a .left .now) (min (a .frames) Runs.most)) e, subst (λ (n : ℕ). Runs.Counts n (a .left .now)) e (l .inv .2))
+    let e : l .v ≡ min (a .voices) maxVoices = omega (arith, c .before .before .count .ensures) in
+    (l .inv .1 ∙ ap (λ (n : ℕ). Runs.untilEnd n (a .c .now)) e, subst (λ (n : ℕ). Runs.Counts n (a .c .now)) e (l .inv .2))
 
-pub shortest-spec : {M : Type 1} → statement M
-shortest-spec =
+pub until-end-spec : {M : Type 1} → statement M
+until-end-spec =
     tie.close
     (tie.spec
     Inv-loop
     μ-loop
     count-requires
-    at-most-requires
     loop-holds
     mul-at-least-one
     element-copy-out-at-least-one
