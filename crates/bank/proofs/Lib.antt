@@ -1,8 +1,10 @@
--- Laws about the bank, each file on those before it.
-pub mod Lanes
+-- Laws of the bank: of its definitions, and of the arrays that hold it.
 pub mod Frames
-mod Owned
-mod Spread
-mod Readings
+pub mod Bytes
+pub mod Accepted
+pub mod Held
+pub mod Answers
+pub mod Replying
 pub mod Runs
+pub mod Drawing
 pub mod Whole

@@ -1,185 +1,226 @@
--- Runs, one after the other, are the frames of the definition, and what they drew are its rows.
+-- All frames have passed: the output holds the definition's rows, in floats or in bytes, and the bank is the definition's.
 use mathlib.Core.Path.{_≡_, refl, sym, ap, _∙_, subst}
 use mathlib.Core.Bool.{cond}
-use mathlib.Core.Logic.{_⊎_, inl, inr}
 use mathlib.Core.List.{List, _++_}
-use Prim.Native.Nat.{ℕ, _+_, _*_, _-_, _/_, _%_, _<_, _≤_}
+use mathlib.Core.Logic.{_⊎_, inl, inr, _≢_}
+use Prim.Native.Nat.{ℕ, _+_, _*_, _-_, _/_, _%_, _<_, _≤_, min}
 use native.Mathlib.Omega.{arith}
-use native.Mathlib.Nat.{add-mul, div-add-mod', mod-lt, div-lt-iff-lt-mul}
+use native.Mathlib.Nat.{div-add-mod', mod-lt, div-lt-iff-lt-mul}
 use borrow.Author.Tests.{lt-ltb, le-ltb, eq-eqb, ne-eqb}
-use borrow.Rule.Slice.PartMut.{putMid}
 use lib.Dec.{ltb}
 use lib.Ieee.{Float, nan}
-use lib.ListN.{length, getD, take}
-use lib.Seq.{ext-getD}
+use lib.ListN.{length, getD, drop, length-append, length-drop, List·getD-append}
+use lib.Seq.{ext-getD, getD-append-add, getD-drop}
 use Rattle.numbers.specs.Constants as Constants
 use Rattle.timing.specs.declared.Timing.{Timing}
 use Rattle.curve.specs.Segments as Segments
 use Rattle.lane.specs.declared.lanes.Voice.{Voice}
-use Rattle.lane.proofs.Frames.{frames-add}
 use Rattle.lane.specs.Voices as Voices
 use Rattle.filled.proofs.Filling.{split}
-use Rattle.envelope.proofs.Runs.{levelAt, level-within}
-use Rattle.bank.specs.declared.banks.EnvelopeBank.{EnvelopeBank}
-use Rattle.bank.specs.declared.banks.Answer.{Answer}
-use Rattle.bank.specs.Calls.{Call, refusal}
-use Rattle.rows.specs.Strides.{strideOf}
-use Rattle.bank.specs.Banks.{voice, size, frames, rows, moved, answer, written}
-use Rattle.rows.specs.Rows.{drawnAt, laneAt}
-use Rattle.bank.specs.Parts.{followed}
-use Rattle.bank.proofs.Lanes.{Sized, Lanes, bank-ext}
-use Rattle.bank.proofs.Frames.{laneAfter, frames-lanes, length-rows, rows-at}
-use Rattle.rows.proofs.Lent.{part-before, part-at, rest-back}
+use Rattle.memory.specs.Memory.{Arrays, countOf, timingAt, voiceAt}
+use Rattle.memory.proofs.Storing.{same-self}
+use Rattle.rows.specs.Strides.{groupsOf, strideOf}
+use Rattle.rows.specs.Rows.{floatCell, byteCell, Cleared}
+use Rattle.rows.proofs.Places.{byte-told}
 use Rattle.rows.proofs.RowsDrawn.{row-fits}
-use Rattle.bank.proofs.Runs.{counted, ranLane, settledLane, run-whole}
+use Rattle.bank.specs.Calls.{Call, refusal}
+use Rattle.bank.specs.Banks.{Bank, bankOf, size, voice, frames, rows, moved, answer, written, bytes, bytesRefusal, writtenBytes, afterBytes}
+use Rattle.bank.specs.Lent.{Processed}
+use Rattle.bank.proofs.Frames.{voice-frames, length-rows, rows-at}
+use Rattle.bank.proofs.Bytes.{length-bytes, bytes-at}
+use Rattle.bank.proofs.Held.{size-of, voice-of, timing-of}
+use Rattle.bank.proofs.Drawing.{withFloats, cleared-few, cleared-bank, cleared-processed, Ran, ran-bank, laneAt, Shown, Going}
 
--- Lane i of row k.
-abbrev pub drawnLane : ℕ → EnvelopeBank → ℕ → ℕ → Float
-drawnLane n b k i = cond (ltb i n) (levelAt (b .timing) (voice b i) k) Constants.zero
+-- A bank of n voices, and the N frames that were shown.
+module _ (m₀ : Arrays) (n N : ℕ) (n-is : n ≡ countOf (m₀ .codes)) where
+  abbrev b : Bank
+  b = bankOf m₀
 
--- It is the lane of the definition's row.
-drawn-due : (b : EnvelopeBank) → Sized b → (k i : ℕ)
-    → drawnLane (size b) b k i ≡ cond (ltb i (size b)) (Segments.level (voice (frames k b) i .seg)) Constants.zero
-drawn-due b S k i = go (split i (size b))
-  where
-    go : (i < size b) ⊎ (size b ≤ i) → drawnLane (size b) b k i ≡ cond (ltb i (size b)) (Segments.level (voice (frames k b) i .seg)) Constants.zero
-    go (inl h) =
-        let e : voice (frames k b) i ≡ Voices.frames k (b .timing) (voice b i) = frames-lanes k b S .lane i (omega arith) ∙ rw (lt-ltb i (size b) h) in
-        rw (lt-ltb i (size b) h) (ap (λ (v : Voice). Segments.level (v .seg)) (sym e))
-    go (inr h) = rw (le-ltb i (size b) h)
-
--- A lane that is drawn within a run is the lane of the definition's rows.
-pub lane-due : (b : EnvelopeBank) → Sized b → (m : ℕ) → ((v : ℕ) → v < size b → Segments.Inside m (getD (b .left) v 0)) → (k i : ℕ) → k < m → i < strideOf (size b)
-    → laneAt (size b) k (b .u) (b .r) (b .d) (b .scale) (b .base) i ≡ getD (rows m b) (k * strideOf (size b) + i) nan
-lane-due b S m inside k i p q = go (split i (size b)) ∙ drawn-due b S k i ∙ sym (rows-at m b k i p q)
-  where
-    go : (i < size b) ⊎ (size b ≤ i) → laneAt (size b) k (b .u) (b .r) (b .d) (b .scale) (b .base) i ≡ drawnLane (size b) b k i
-    go (inl h) = ap (λ (x : Float). cond (ltb i (size b)) x Constants.zero) (level-within (b .timing) (voice b i) m k (inside i h) p)
-    go (inr h) = rw (le-ltb i (size b) h)
-
--- After `done` frames of a bank of n voices: its lanes, and the rows drawn so far.
-pub record Ran (n stride : ℕ) (b₀ : EnvelopeBank) (done : ℕ) (b : EnvelopeBank) (out : List Float) : Type 0 where
-  pub lanes : Lanes (b₀ .timing) (laneAfter n b₀ done) b₀ b
-  pub drawn : (k i : ℕ) → k < done → i < stride → getD out (k * stride + i) nan ≡ drawnLane n b₀ k i
-
-pub ran-none : (n stride : ℕ) (b : EnvelopeBank) (out : List Float) → Sized b → Ran n stride b 0 b out
-ran-none n stride b out S =
-    record {
-      lanes = record { voices = refl; timing = refl; sized = S; lane = λ v h. go v (split v n) };
-      drawn = λ k i p q. absurd (omega arith);
-    }
-  where
-    go : (v : ℕ) → (v < n) ⊎ (n ≤ v) → voice b v ≡ laneAfter n b 0 v
-    go v (inl h) = rw (lt-ltb v n h)
-    go v (inr h) = rw (le-ltb v n h)
-
--- One run more: b₁ is b with its lanes counted on, b₂ that with what follows the segments that ended.
-module _ (n stride : ℕ) (b₀ b b₁ b₂ : EnvelopeBank) (done m : ℕ) (out p′ : List Float) (few : n ≤ 64)
-    (R : Ran n stride b₀ done b out)
-    (some : 1 ≤ m)
-    (inside : (v : ℕ) → v < n → Segments.Inside m (getD (b .left) v 0))
-    (D : (k i : ℕ) → k < m → i < stride → getD p′ (k * stride + i) nan ≡ laneAt n k (b .u) (b .r) (b .d) (b .scale) (b .base) i)
-    (C : Lanes (b .timing) (ranLane n m b) b b₁)
-    (Z : Lanes (b₀ .timing) (settledLane (b₀ .timing) n b₁) b₁ b₂)
-    (fits : done * stride ≤ length out) where
   abbrev t : Timing
-  t = b₀ .timing
+  t = timingAt (m₀ .bends)
 
-  -- A voice as it was after `done` frames.
-  was : (v : ℕ) → v < n → voice b v ≡ Voices.frames done t (voice b₀ v)
-  was v h = R .lanes .lane v (omega arith) ∙ rw (lt-ltb v n h)
+  pub sized : size b ≡ n
+  sized = size-of m₀ ∙ sym n-is
 
-  lane-next : (v : ℕ) → v < 64 → (v < n) ⊎ (n ≤ v) → voice b₂ v ≡ laneAfter n b₀ (done + m) v
-  lane-next v p (inl h) =
-      let c : voice b₁ v ≡ counted m (voice b v) = C .lane v p ∙ rw (lt-ltb v n h) in
-      let f : voice b₂ v ≡ followed t (voice b₁ v) = Z .lane v p ∙ rw (lt-ltb v n h) in
-      rw (lt-ltb v n h)
-      (f ∙ ap (followed t) c ∙ sym (run-whole t (voice b v) m some (inside v h)) ∙ ap (Voices.frames m t) (was v h)
-      ∙ sym (frames-add t done m (voice b₀ v)))
-  lane-next v p (inr h) =
-      rw (le-ltb v n h) (Z .lane v p ∙ rw (le-ltb v n h) (C .lane v p ∙ rw (le-ltb v n h) (R .lanes .lane v p ∙ rw (le-ltb v n h))))
+  -- A voice after k frames.
+  voice-due : (k i : ℕ) → i < n → voice (frames k b) i ≡ Voices.frames k t (voiceAt m₀ i)
+  voice-due k i h =
+      voice-frames k b i (omega (arith, h, sized))
+      ∙ ap (λ (x : Voice). Voices.frames k (b .timing) x) (voice-of m₀ i (omega (arith, h, n-is)))
+      ∙ ap (λ (t : Timing). Voices.frames k t (voiceAt m₀ i)) (timing-of m₀)
 
-  new-row : (k i : ℕ) → k < m → i < stride → (i < n) ⊎ (n ≤ i) → getD p′ (k * stride + i) nan ≡ drawnLane n b₀ (done + k) i
-  new-row k i p q (inl h) =
-      let e : drawnAt k (b .u) (b .r) (b .d) (b .scale) (b .base) i ≡ levelAt t (voice b₀ i) (done + k) =
-      level-within t (voice b i) m k (inside i h) p
-      ∙ ap (λ (v : Voice). levelAt t v k) (was i h)
-      ∙ ap (λ (v : Voice). Segments.level (v .seg)) (sym (frames-add t done k (voice b₀ i)))
-      in
-      D k i p q ∙ ap (λ (x : Float). cond (ltb i n) x Constants.zero) e
-  new-row k i p q (inr h) = D k i p q ∙ rw (le-ltb i n h)
+  rows-lane : (k i : ℕ) → k < N → i < strideOf n
+      → getD (rows N b) (k * strideOf n + i) nan ≡ cond (ltb i n) (Segments.level (voice (frames k b) i .seg)) Constants.zero
+  rows-lane k i p q =
+      subst (λ (n : ℕ). i < strideOf n → getD (rows N b) (k * strideOf n + i) nan ≡ cond (ltb i n) (Segments.level (voice (frames k b) i .seg)) Constants.zero) sized
+      (rows-at N b k i p) q
 
-  pub ran-more : Ran n stride b₀ (done + m) b₂ (putMid (done * stride) (length out - done * stride) out p′)
-  ran-more =
-      record {
-        lanes =
-            record {
-              voices = Z .voices ∙ C .voices ∙ R .lanes .voices;
-              timing = Z .timing;
-              sized = Z .sized;
-              lane = λ v p. lane-next v p (split v n);
-            };
-        drawn = λ k i p q.
-            subst (λ (o : List Float). getD o (k * stride + i) nan ≡ drawnLane n b₀ k i) (sym (rest-back (done * stride) out p′)) (go k i p q (split k done));
-      }
+  -- Lane i of row k is the definition's.
+  lane-due : (k i : ℕ) → k < N → i < strideOf n → laneAt n t m₀ k i ≡ getD (rows N b) (k * strideOf n + i) nan
+  lane-due k i p q = go (split i n) ∙ sym (rows-lane k i p q)
     where
-      go : (k i : ℕ) → k < done + m → i < stride → (k < done) ⊎ (done ≤ k) → getD (take (done * stride) out ++ p′) (k * stride + i) nan ≡ drawnLane n b₀ k i
-      go k i p q (inl h) = part-before nan (done * stride) out p′ fits (k * stride + i) (omega (arith, row-fits k done stride h)) ∙ R .drawn k i h q
-      go k i p q (inr h) =
-          let w : done + (k - done) ≡ k = omega arith in
-          let e : done * stride + ((k - done) * stride + i) ≡ (done + (k - done)) * stride + i = omega (arith, add-mul done (k - done) stride) in
-          subst (λ (k : ℕ). getD (take (done * stride) out ++ p′) (k * stride + i) nan ≡ drawnLane n b₀ k i) w
-          (subst (λ (j : ℕ). getD (take (done * stride) out ++ p′) j nan ≡ drawnLane n b₀ (done + (k - done)) i) e
-          (part-at nan (done * stride) out p′ fits ((k - done) * stride + i) ∙ new-row (k - done) i (omega arith) q (split i n)))
+      go : (i < n) ⊎ (n ≤ i) → laneAt n t m₀ k i ≡ cond (ltb i n) (Segments.level (voice (frames k b) i .seg)) Constants.zero
+      go (inl h) = rw (lt-ltb i n h) (ap (λ (x : Voice). Segments.level (x .seg)) (sym (voice-due k i h)))
+      go (inr h) = rw (le-ltb i n h)
 
--- All frames have passed.
-module _ (b₀ : EnvelopeBank) (S : Sized b₀) (m : ℕ) (b : EnvelopeBank) (out : List Float)
-    (R : Ran (size b₀) (strideOf (size b₀)) b₀ m b out) where
-  ran-bank : b ≡ frames m b₀
-  ran-bank =
-      let F = frames-lanes m b₀ S in
-      bank-ext b (frames m b₀) (R .lanes .sized) (F .sized) (R .lanes .voices ∙ sym (F .voices)) (R .lanes .timing ∙ sym (F .timing))
-      (λ v h. R .lanes .lane v h ∙ sym (F .lane v h))
+  long : length (rows N b) ≡ N * strideOf n
+  long = length-rows N b ∙ ap (λ (n : ℕ). N * strideOf n) sized
 
-  ran-rows : length out ≡ m * strideOf (size b₀) → 0 < strideOf (size b₀) → out ≡ rows m b₀
-  ran-rows l pos =
-      ext-getD nan out (rows m b₀) (l ∙ sym (length-rows m b₀))
+  pub floats-shown : (o₀ o : List Float) → Shown nan 16 floatCell (groupsOf n) (laneAt n t m₀) N o₀ o → length o₀ ≡ N * strideOf n → o ≡ rows N b
+  floats-shown o₀ o H l =
+      ext-getD nan o (rows N b) (H .long ∙ l ∙ sym long)
       (λ j h.
-      let s = strideOf (size b₀) in
+      let s = strideOf n in
+      let pos : 0 < s = omega arith in
       let e : j / s * s + j % s ≡ j = div-add-mod' j s in
-      let k : j / s < m = div-lt-iff-lt-mul pos .1 (omega arith) in
+      let k : j / s < N = div-lt-iff-lt-mul pos .1 (omega (arith, h, H .long, l)) in
       let r : j % s < s = mod-lt j pos in
-      subst (λ (j : ℕ). getD out j nan ≡ getD (rows m b₀) j nan) e (R .drawn (j / s) (j % s) k r ∙ drawn-due b₀ S (j / s) (j % s) ∙ sym (rows-at m b₀ (j / s) (j % s) k r)))
+      subst (λ (j : ℕ). getD o j nan ≡ getD (rows N b) j nan) e (H .levels (j / s) (j % s) k r ∙ lane-due (j / s) (j % s) k r))
 
--- What process answers and leaves.
-module _ (b₀ : EnvelopeBank) (out₀ : List Float) (s : ℕ) (s-is : s ≡ strideOf (size b₀)) where
-  pub refused-answer : (length out₀ % s ≡ 0 → ⊥) → record { refusal = 5; bank = b₀ } ≡ answer b₀ (Call.process (length out₀))
-  unfolding answer refusal
-  refused-answer h = rw (← s-is, ne-eqb (length out₀ % s) 0 h)
+  abbrev bs : List ℕ
+  bs = bytes (rows N b)
 
-  pub refused-levels : (length out₀ % s ≡ 0 → ⊥) → out₀ ≡ written b₀ out₀
-  unfolding written refusal
-  refused-levels h = rw (← s-is, ne-eqb (length out₀ % s) 0 h)
+  long-bytes : length bs ≡ N * (64 * groupsOf n)
+  long-bytes =
+      let e : 4 * (N * (16 * groupsOf n)) ≡ N * (64 * groupsOf n) = omega arith in
+      length-bytes (rows N b) ∙ ap (λ (n : ℕ). 4 * n) long ∙ e
 
-  module _ (n : ℕ) (n-is : n ≡ size b₀) (S : Sized b₀) (b : EnvelopeBank) (out : List Float) (whole : length out₀ % s ≡ 0) (pos : 0 < s)
-      (R : Ran n s b₀ (length out₀ / s) b out) where
-    own : Ran (size b₀) (strideOf (size b₀)) b₀ (length out₀ / strideOf (size b₀)) b out
-    own = subst (λ (k : ℕ). Ran (size b₀) k b₀ (length out₀ / k) b out) s-is (subst (λ (k : ℕ). Ran k s b₀ (length out₀ / s) b out) n-is R)
+  module _ (o₀ o : List ℕ) (H : Shown 0 64 byteCell (groupsOf n) (laneAt n t m₀) N o₀ o) where
+    -- Byte j of the rows.
+    within : (j : ℕ) → j < N * (64 * groupsOf n) → getD o j 0 ≡ getD bs j 0
+    within j h =
+        let w = 64 * groupsOf n in
+        let k = j / w in
+        let c = j % w in
+        let pos : 0 < w = omega arith in
+        let e : k * w + c ≡ j = div-add-mod' j w in
+        let r : k < N = div-lt-iff-lt-mul pos .1 h in
+        let d : c < w = mod-lt j pos in
+        let q = k * (16 * groupsOf n) + c / 4 in
+        let i : 4 * q + c % 4 ≡ k * w + c = omega arith in
+        let z : q < length (rows N b) = omega (arith, long, d, row-fits k N (16 * groupsOf n) r) in
+        subst (λ (j : ℕ). getD o j 0 ≡ getD bs j 0) e
+        (H .levels k c r d
+        ∙ byte-told (groupsOf n) _ _ (λ i p. lane-due k i r p) c d
+        ∙ sym (bytes-at (rows N b) q (c % 4) z (omega arith))
+        ∙ ap (λ (n : ℕ). getD bs n 0) i)
 
-    whole-is : length out₀ % strideOf (size b₀) ≡ 0
-    whole-is = subst (λ (k : ℕ). length out₀ % k ≡ 0) s-is whole
+    pub bytes-shown : N * (64 * groupsOf n) ≤ length o₀ → o ≡ bs ++ drop (length bs) o₀
+    bytes-shown l =
+        ext-getD 0 o (bs ++ drop (length bs) o₀)
+        (H .long ∙ sym (length-append bs (drop (length bs) o₀) ∙ omega (arith, length-drop (length bs) o₀, long-bytes, l)))
+        (λ j h. go j (split j (N * (64 * groupsOf n))))
+      where
+        go : (j : ℕ) → (j < N * (64 * groupsOf n)) ⊎ (N * (64 * groupsOf n) ≤ j) → getD o j 0 ≡ getD (bs ++ drop (length bs) o₀) j 0
+        go j (inl h) = within j h ∙ sym (List·getD-append bs (drop (length bs) o₀) 0 j (omega (arith, h, long-bytes)))
+        go j (inr h) =
+            let e : length bs + (j - length bs) ≡ j = omega (arith, h, long-bytes) in
+            H .past j h
+            ∙ ap (λ (i : ℕ). getD o₀ i 0) (sym e)
+            ∙ sym (getD-drop (length bs) o₀ (j - length bs) 0)
+            ∙ sym (getD-append-add bs (drop (length bs) o₀) (j - length bs) 0)
+            ∙ ap (λ (i : ℕ). getD (bs ++ drop (length bs) o₀) i 0) e
 
-    pub done-answer : record { refusal = 0; bank = b } ≡ answer b₀ (Call.process (length out₀))
-    unfolding answer refusal moved
-    done-answer =
-        rw (eq-eqb (length out₀ % strideOf (size b₀)) 0 whole-is)
-        (ap {B = Answer} (λ (x : EnvelopeBank). record { refusal = 0; bank = x }) (ran-bank b₀ S (length out₀ / strideOf (size b₀)) b out own))
+  -- The bank, and the numbers that it does not read.
+  module _ (m : Arrays) (R : Ran n t m₀ N m) where
+    pub passed-bank : bankOf m ≡ frames N b
+    passed-bank = ran-bank n t m₀ N m n-is refl R
 
-    pub done-levels : length out ≡ length out₀ → out ≡ written b₀ out₀
-    unfolding written refusal
-    done-levels l =
-        let e : length out₀ / strideOf (size b₀) * strideOf (size b₀) + length out₀ % strideOf (size b₀) ≡ length out₀ =
-        div-add-mod' (length out₀) (strideOf (size b₀)) in
-        let w = whole-is in
-        rw (eq-eqb (length out₀ % strideOf (size b₀)) 0 whole-is)
-        (ran-rows b₀ S (length out₀ / strideOf (size b₀)) b out own (omega arith) (subst (λ (k : ℕ). 0 < k) s-is pos))
+    pub passed-kept : Processed 0 m₀ m
+    passed-kept =
+        record {
+          refused = λ d. absurd (d refl);
+          spare = λ _ w p q. R .spare w (omega (arith, p, n-is)) (subst (λ (n : ℕ). w < strideOf n) (sym n-is) q);
+          beside = λ w p q. R .beside w (subst (λ (n : ℕ). strideOf n ≤ w) (sym n-is) p) q;
+        }
+
+-- ---- what the calls answer
+
+kept-whole : (r : ℕ) (m : Arrays) → r ≢ 0 → Processed r m m
+kept-whole r m d = record { refused = λ d. refl; spare = λ e. absurd (d e); beside = λ w p q. same-self w m }
+
+-- What `process` says.
+abbrev pub Answers : ℕ → Arrays → Arrays → List Float → List Float → Type 0
+Answers r m₀ m o₀ o =
+    (r ≡ answer (bankOf m₀) (Call.process (length o₀)) .refusal)
+    × ((bankOf m ≡ answer (bankOf m₀) (Call.process (length o₀)) .bank) × ((o ≡ written (bankOf m₀) o₀) × Processed r m₀ m))
+
+module _ (m₀ : Arrays) (o₀ : List Float) (n stride : ℕ) (n-is : n ≡ countOf (m₀ .codes)) (stride-is : stride ≡ strideOf n) where
+  abbrev s : ℕ
+  s = strideOf (size (bankOf m₀))
+
+  same : stride ≡ s
+  same = stride-is ∙ ap strideOf (sym (sized m₀ n 0 n-is))
+
+  pub process-refused : length o₀ % stride ≢ 0 → Answers 5 m₀ m₀ o₀ o₀
+  unfolding answer refusal written
+  process-refused d =
+      let e : length o₀ % s ≡ 0 → ⊥ = λ z. d (ap (λ (k : ℕ). length o₀ % k) same ∙ z) in
+      rw (ne-eqb (length o₀ % s) 0 e) (refl, (refl, (refl, kept-whole 5 m₀ (λ z. absurd (omega arith)))))
+
+  -- The spare lanes were cleared, then all frames passed.
+  pub process-done : (f′ : List Float) (m : Arrays) (o : List Float) → Cleared (min n 64) (strideOf (min n 64)) (m₀ .floats) f′ → length o₀ % stride ≡ 0
+      → Going nan 16 floatCell n (withFloats f′ m₀) o₀ (length o₀ / stride) m o → Answers 0 m₀ m o₀ o
+  unfolding answer refusal written moved
+  process-done f′ m o C z G =
+      let few : n ≤ 64 = omega (arith, n-is) in
+      let D = cleared-few n few (m₀ .floats) f′ C in
+      let e : length o₀ % s ≡ 0 = ap (λ (k : ℕ). length o₀ % k) (sym same) ∙ z in
+      let N = length o₀ / stride in
+      let l : length o₀ ≡ N * strideOf n = omega (arith, z, ap (λ (k : ℕ). N * k) stride-is, div-add-mod' (length o₀) stride) in
+      let f : N ≡ length o₀ / s = ap (λ (k : ℕ). length o₀ / k) same in
+      let q = cleared-bank n few m₀ f′ D n-is in
+      let m₁ = withFloats f′ m₀ in
+      rw (eq-eqb (length o₀ % s) 0 e) (
+        refl,
+        (
+          passed-bank m₁ n N n-is m (G .ran) ∙ ap (frames N) q ∙ ap (λ (k : ℕ). frames k (bankOf m₀)) f,
+          (
+            floats-shown m₁ n N n-is o₀ o (G .shown) l ∙ ap (rows N) q ∙ ap (λ (k : ℕ). rows k (bankOf m₀)) f,
+            cleared-processed n few m₀ f′ D n-is m (passed-kept m₁ n N n-is m (G .ran)),
+          ),
+        ),
+      )
+
+-- What `process_bytes` says.
+abbrev pub AnswersBytes : ℕ → Arrays → Arrays → ℕ → List ℕ → List ℕ → Type 0
+AnswersBytes r m₀ m N o₀ o =
+    (r ≡ bytesRefusal (bankOf m₀) N (length o₀))
+    × ((bankOf m ≡ afterBytes (bankOf m₀) N (length o₀)) × ((o ≡ writtenBytes (bankOf m₀) N o₀) × Processed r m₀ m))
+
+module _ (m₀ : Arrays) (o₀ : List ℕ) (n N : ℕ) (n-is : n ≡ countOf (m₀ .codes)) where
+  stride-same : strideOf (size (bankOf m₀)) ≡ strideOf n
+  stride-same = ap strideOf (sized m₀ n 0 n-is)
+
+  pub bytes-refused : length o₀ / (64 * groupsOf n) < N → AnswersBytes 11 m₀ m₀ N o₀ o₀
+  unfolding bytesRefusal afterBytes writtenBytes
+  bytes-refused h =
+      let e : length o₀ / 4 < N * strideOf (size (bankOf m₀)) = subst (λ (s : ℕ). length o₀ / 4 < N * s) (sym stride-same) (omega (arith, h, less)) in
+      rw (lt-ltb (length o₀ / 4) (N * strideOf (size (bankOf m₀))) e) (refl, (refl, (refl, kept-whole 11 m₀ (λ z. absurd (omega arith)))))
+    where
+      pos : 0 < 64 * groupsOf n
+      pos = omega arith
+
+      less : length o₀ < N * (64 * groupsOf n)
+      less = div-lt-iff-lt-mul pos .0 h
+
+  pub bytes-done : (f′ : List Float) (m : Arrays) (o : List ℕ) → Cleared (min n 64) (strideOf (min n 64)) (m₀ .floats) f′ → N * (64 * groupsOf n) ≤ length o₀
+      → Going 0 64 byteCell n (withFloats f′ m₀) o₀ N m o → AnswersBytes 0 m₀ m N o₀ o
+  unfolding bytesRefusal afterBytes writtenBytes
+  bytes-done f′ m o C l G =
+      let few : n ≤ 64 = omega (arith, n-is) in
+      let D = cleared-few n few (m₀ .floats) f′ C in
+      let k : 4 * (N * strideOf n) ≡ N * (64 * groupsOf n) = omega arith in
+      let e : N * strideOf (size (bankOf m₀)) ≤ length o₀ / 4 = subst (λ (s : ℕ). N * s ≤ length o₀ / 4) (sym stride-same) (omega (arith, l, k)) in
+      let q = cleared-bank n few m₀ f′ D n-is in
+      let m₁ = withFloats f′ m₀ in
+      rw (le-ltb (length o₀ / 4) (N * strideOf (size (bankOf m₀))) e) (
+        refl,
+        (
+          passed-bank m₁ n N n-is m (G .ran) ∙ ap (frames N) q,
+          (
+            bytes-shown m₁ n N n-is o₀ o (G .shown) l ∙ ap (λ (b : Bank). bytes (rows N b) ++ drop (length (bytes (rows N b))) o₀) q,
+            cleared-processed n few m₀ f′ D n-is m (passed-kept m₁ n N n-is m (G .ran)),
+          ),
+        ),
+      )

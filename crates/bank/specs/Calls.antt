@@ -9,7 +9,9 @@ use Rattle.settings.specs.declared.settings.EnvelopeParams.{EnvelopeParams}
 use Rattle.settings.specs.declared.settings.Trigger.{Trigger}
 use Rattle.settings.specs.Settings.{amp}
 use Rattle.settings.specs.Refusals as Refusals
+use Rattle.memory.specs.Memory.{maxVoices}
 use Rattle.rows.specs.Strides.{strideOf}
+use Rattle.bank.specs.declared.known.Known.{Known}
 
 -- ---- the calls
 
@@ -38,11 +40,11 @@ pub data Call : Type 0 where
   process : ℕ → Call
   ask : Query → Call
 
--- What the calls so far tell of the bank as a whole, beside each voice's history: how many voices it has.
-pub record Known : Type 0 where
-  pub voices : ℕ
+-- What the calls so far tell of the bank as a whole, beside each voice's history, is `Known`: how many voices it has. After a fresh call, and after
+-- an accepted call, which adds nothing to it.
+abbrev pub knownOf : Opening → Known
+knownOf o = record { voices = o .voices }
 
--- What an accepted call adds to it: nothing.
 abbrev pub learned : Known → Call → Known
 learned k c = k
 
@@ -59,7 +61,7 @@ named k v later = cond (ltb v (k .voices)) later 2
 
 -- 1, 4 and 3: over 64 voices, a rate over its limit, a time over its limit.
 unfoldable pub openingRefusal : Opening → ℕ
-openingRefusal o = cond (ltb 64 (o .voices)) 1 (Refusals.fresh (o .params) (o .timing))
+openingRefusal o = cond (ltb maxVoices (o .voices)) 1 (Refusals.fresh (o .params) (o .timing))
 
 -- The bank that is there after a fresh call: beside a refusal the one of 0 voices, AMP and Timing::new(0.0).
 unfoldable pub opened : Opening → Opening

@@ -2,4 +2,5 @@
 pub mod Calls
 pub mod Banks
 pub mod Replies
+pub mod Lent
 pub mod Parts

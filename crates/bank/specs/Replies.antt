@@ -7,15 +7,15 @@ use Rattle.settings.specs.declared.settings.EnvelopeParams.{EnvelopeParams}
 use Rattle.settings.specs.declared.stages.Stage.{Stage}
 use Rattle.envelope.specs.declared.envelopes.Envelope.{Envelope}
 use Rattle.envelope.specs.Envelopes as Envelopes
-use Rattle.bank.specs.declared.banks.EnvelopeBank.{EnvelopeBank}
-use Rattle.bank.specs.declared.calls.ParamsReading.{ParamsReading}
-use Rattle.bank.specs.declared.calls.StageReading.{StageReading}
-use Rattle.bank.specs.declared.calls.LevelReading.{LevelReading}
-use Rattle.bank.specs.declared.calls.IdleReading.{IdleReading}
-use Rattle.bank.specs.declared.calls.FramesReading.{FramesReading}
-use Rattle.bank.specs.Calls.{Query, Call, Known, ifAccepted, refusal}
+use Rattle.bank.specs.declared.readings.ParamsReading.{ParamsReading}
+use Rattle.bank.specs.declared.readings.StageReading.{StageReading}
+use Rattle.bank.specs.declared.readings.LevelReading.{LevelReading}
+use Rattle.bank.specs.declared.readings.IdleReading.{IdleReading}
+use Rattle.bank.specs.declared.readings.FramesReading.{FramesReading}
+use Rattle.bank.specs.declared.known.Known.{Known}
+use Rattle.bank.specs.Calls.{Query, Call, ifAccepted, refusal}
 use Rattle.rows.specs.Strides.{strideOf}
-use Rattle.bank.specs.Banks.{known, envelope, rows}
+use Rattle.bank.specs.Banks.{Bank, known, envelope, rows}
 
 pub data Reply : Type 0 where
   refused : ℕ → Reply
@@ -55,7 +55,7 @@ abbrev pub replied : Known → (ℕ → Envelope) → (ℕ → List Float) → C
 replied k e drawn c = ifAccepted (refusal k c) (answered k e drawn c) (Reply.refused (refusal k c))
 
 -- What a bank replies to a call.
-unfoldable pub reply : EnvelopeBank → Call → Reply
+unfoldable pub reply : Bank → Call → Reply
 reply b c = replied (known b) (envelope b) (λ n. rows n b) c
 
 -- ---- the readings' enums, in document 01's numbers and values
