@@ -14,45 +14,47 @@ use Rattle.events.specs.declared.Event.{Event}
 use Rattle.events.specs.declared.Reading.{Reading}
 use Rattle.events.specs.Format as Format
 use Rattle.events.proofs.Records.{read-next, read-refused}
-use Rattle.histories.proofs.Rows.{stride-holds}
+use Rattle.memory.specs.Memory.{maxVoices}
+use Rattle.bank.proofs.Frames.{stride-holds}
 use Rattle.checking.specs.declared.Checked.{Checked}
 use Rattle.checking.specs.Checks.{start, refusedAt, passed, judged, met, checkedFrom, checked}
-use Rattle.checking.proofs.Judging.{if-refused, if-accepted, own, judged-passed, passed-few}
+use Rattle.bank.proofs.Accepted.{if-refused, if-accepted}
+use Rattle.checking.proofs.Judging.{own, judged-passed, passed-few}
 
 -- What holds of how far it came: at most 64 voices, and an output that holds the frames.
 pub record Held (room : ℕ) (c : Checked) : Type 0 where
-  pub voices : c .voices ≤ 64
-  pub levels : c .frames * strideOf (c .voices) ≤ room
+  pub voices : c .known .voices ≤ maxVoices
+  pub levels : c .frames * strideOf (c .known .voices) ≤ room
 
 pub held-start : (room : ℕ) → Held room start
 held-start room = record { voices = omega arith; levels = omega arith }
 
 pub held-frames : (room : ℕ) (c : Checked) → Held room c → c .frames ≤ room
-held-frames room c H = le-trans (le-mul-of-pos-right (c .frames) (stride-holds (c .voices) .1)) (H .levels)
+held-frames room c H = le-trans (le-mul-of-pos-right (c .frames) (stride-holds (c .known .voices) .1)) (H .levels)
+
+held-refused : (room : ℕ) (c : Checked) (n : ℕ) → Held room c → Held room (refusedAt n c)
+held-refused room c n H = record { voices = H .voices; levels = H .levels }
 
 module _ (room : ℕ) (c : Checked) (e : Event) (next : ℕ) (H : Held room c) where
   abbrev p : Checked
   p = passed c e next
 
-  kept : (n : ℕ) → Held room (refusedAt n c)
-  kept n = record { voices = H .voices; levels = H .levels }
-
-  room-left : p .voices ≤ 64 → (t : Bool) → ltb room (p .frames * strideOf (p .voices)) ≡ t → Held room (cond t (refusedAt 11 c) p)
-  room-left few true h = kept 11
+  room-left : p .known .voices ≤ maxVoices → (t : Bool) → ltb room (p .frames * strideOf (p .known .voices)) ≡ t → Held room (cond t (refusedAt 11 c) p)
+  room-left few true h = held-refused room c 11 H
   room-left few false h = record { voices = few; levels = ltb-false room _ h }
 
   judged-held : Held room (judged room c e next)
   unfolding judged
   judged-held = go (own c e) refl
     where
-      go : (n : ℕ) → own c e ≡ n → Held room (ifAccepted n (cond (ltb room (p .frames * strideOf (p .voices))) (refusedAt 11 c) p) (refusedAt n c))
-      go zero z = room-left (passed-few c e next (H .voices) z) (ltb room (p .frames * strideOf (p .voices))) refl
-      go (suc n) z = kept (suc n)
+      go : (n : ℕ) → own c e ≡ n → Held room (ifAccepted n (cond (ltb room (p .frames * strideOf (p .known .voices))) (refusedAt 11 c) p) (refusedAt n c))
+      go zero z = room-left (passed-few c e next (H .voices) z) (ltb room (p .frames * strideOf (p .known .voices))) refl
+      go (suc n) z = held-refused room c (suc n) H
 
 pub met-held : (room : ℕ) (c : Checked) (r : Reading) → Held room c → Held room (met room c r)
 unfolding met
 met-held room c (Reading.Record e next) H = judged-held room c e next H
-met-held room c (Reading.Refused n) H = record { voices = H .voices; levels = H .levels }
+met-held room c (Reading.Refused n) H = held-refused room c n H
 
 -- ---- the loop
 
@@ -99,14 +101,14 @@ still (suc n) l room c z = go (c .refusal) refl z
 -- A record that is accepted: no number of its own, and room for its frames.
 pub record Accepted (room : ℕ) (c : Checked) (e : Event) (next : ℕ) : Type 0 where
   pub own : own c e ≡ 0
-  pub fits : passed c e next .frames * strideOf (passed c e next .voices) ≤ room
+  pub fits : passed c e next .frames * strideOf (passed c e next .known .voices) ≤ room
   pub is : judged room c e next ≡ passed c e next
 
 pub judged-accepted : (room : ℕ) (c : Checked) (e : Event) (next : ℕ) → judged room c e next .refusal ≡ 0 → Accepted room c e next
 unfolding judged
-judged-accepted room c e next z = go (own c e) refl (ltb room (passed c e next .frames * strideOf (passed c e next .voices))) refl z
+judged-accepted room c e next z = go (own c e) refl (ltb room (passed c e next .frames * strideOf (passed c e next .known .voices))) refl z
   where
-    go : (n : ℕ) → own c e ≡ n → (t : Bool) → ltb room (passed c e next .frames * strideOf (passed c e next .voices)) ≡ t
+    go : (n : ℕ) → own c e ≡ n → (t : Bool) → ltb room (passed c e next .frames * strideOf (passed c e next .known .voices)) ≡ t
         → ifAccepted n (cond t (refusedAt 11 c) (passed c e next)) (refusedAt n c) .refusal ≡ 0 → Accepted room c e next
     go zero p false q z =
         let h = ltb-false room _ q in
@@ -131,7 +133,7 @@ unfolding checked
 checked-held l bytes = go (eqb (length l) 0)
   where
     go : (t : Bool) → Held (bytes / 4) (cond t (refusedAt 9 start) (checkedFrom (length l) l (bytes / 4) start))
-    go true = record { voices = omega arith; levels = omega arith }
+    go true = held-refused (bytes / 4) start 9 (held-start (bytes / 4))
     go false = from-held (length l) l (bytes / 4) start (held-start (bytes / 4))
 
 -- ---- a list that is accepted was read to its last byte

@@ -4,37 +4,34 @@ use mathlib.Core.Bool.{cond}
 use mathlib.Core.List.{List}
 use lib.Dec.{ltb, eqb}
 use lib.ListN.{length}
-use Rattle.bank.specs.Calls.{Known, ifAccepted}
+use Rattle.bank.specs.Calls.{ifAccepted}
 use Rattle.rows.specs.Strides.{strideOf}
 use Rattle.events.specs.declared.Event.{Event}
 use Rattle.events.specs.declared.Reading.{Reading}
 use Rattle.events.specs.Format as Format
 use Rattle.checking.specs.declared.Checked.{Checked}
-use Rattle.checking.specs.Deeds.{deed, ownRefusal, knownOf, knownAfter, framesOf}
+use Rattle.checking.specs.Deeds.{deed, ownRefusal, knownAfter, framesOf}
 
--- Before the first record.
+-- Before the first record: no voice is there yet.
 abbrev pub start : Checked
-start = record { refusal = 0; at = 0; voices = 0; frames = 0 }
-
-abbrev pub known : Checked → Known
-known c = knownOf (c .voices)
+start = record { refusal = 0; at = 0; known = record { voices = 0 }; frames = 0 }
 
 -- Refused at the record that comes next.
 abbrev pub refusedAt : ℕ → Checked → Checked
-refusedAt n c = record { refusal = n; at = c .at; voices = c .voices; frames = c .frames }
+refusedAt n c = record { refusal = n; at = c .at; known = c .known; frames = c .frames }
 
 -- Past an accepted record.
 abbrev pub passed : Checked → Event → ℕ → Checked
 passed c e next =
-    record { refusal = 0; at = next; voices = knownAfter (known c) (deed (known c) e) .voices; frames = c .frames + framesOf e }
+    record { refusal = 0; at = next; known = knownAfter (c .known) (deed (c .known) e); frames = c .frames + framesOf e }
 
 -- A record that says e: the call's own number, then 11, 'all frames so far, this record's included, times the stride are more levels than the
 -- output holds'.
 unfoldable pub judged : ℕ → Checked → Event → ℕ → Checked
 judged room c e next =
     let p = passed c e next in
-    let own = ownRefusal (known c) (deed (known c) e) in
-    ifAccepted own (cond (ltb room (p .frames * strideOf (p .voices))) (refusedAt 11 c) p) (refusedAt own c)
+    let own = ownRefusal (c .known) (deed (c .known) e) in
+    ifAccepted own (cond (ltb room (p .frames * strideOf (p .known .voices))) (refusedAt 11 c) p) (refusedAt own c)
 
 -- One record more: its own bytes first.
 unfoldable pub met : ℕ → Checked → Reading → Checked

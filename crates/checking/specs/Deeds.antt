@@ -1,7 +1,8 @@
 -- What an event does with a bank.
 use Prim.Native.Nat.{ℕ, _*_}
 use Rattle.events.specs.declared.Event.{Event}
-use Rattle.bank.specs.Calls.{Opening, opening, Call, Known, learned, openingRefusal, refusal}
+use Rattle.bank.specs.declared.known.Known.{Known}
+use Rattle.bank.specs.Calls.{Opening, opening, Call, knownOf, learned, openingRefusal, refusal}
 use Rattle.rows.specs.Strides.{strideOf}
 
 -- It opens a bank, or it makes a call.
@@ -26,13 +27,9 @@ unfoldable pub ownRefusal : Known → Deed → ℕ
 ownRefusal k (opens o) = openingRefusal o
 ownRefusal k (calls c) = refusal k c
 
--- What is known of a bank of n voices.
-abbrev pub knownOf : ℕ → Known
-knownOf n = record { voices = n }
-
 -- What is known of the bank after it.
 unfoldable pub knownAfter : Known → Deed → Known
-knownAfter k (opens o) = knownOf (o .voices)
+knownAfter k (opens o) = knownOf o
 knownAfter k (calls c) = learned k c
 
 -- The frames that an event asks for.

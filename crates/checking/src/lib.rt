@@ -1,24 +1,24 @@
 // The check of a whole event list, before a level is drawn: record by record, with no bank.
 ghost use mathlib.Core.Path.{_≡_};
-ghost use mathlib.Core.Bool.{cond};
 ghost use Prim.Native.Nat.{_≤_, _<_, _^_};
-ghost use lib.Dec.{ltb};
+ghost use Rattle.memory.specs.Memory as Memory;
+ghost use Rattle.bank.specs.Calls as Calls;
 ghost use Rattle.events.specs.Format as Format;
 ghost use Rattle.checking.specs.Checks as Checks;
 ghost use Rattle.checking.specs.Deeds as Deeds;
+use bank::Known;
 use events::Event;
 use events::Reading;
 use settings::ACCEPTED;
 use settings::MISPLACED_OPEN;
-use settings::NO_SUCH_VOICE;
 use settings::OUTPUT_TOO_SHORT;
 
 // How far a list is checked: the number of the refusal, 0 if nothing is refused; the first byte of
-// the record that is refused or comes next; the voices that the list opens, and its frames so far.
+// the record that is refused or comes next; what is known of the bank, and the frames so far.
 pub struct Checked {
     pub refusal: u32,
     pub at: usize,
-    pub voices: usize,
+    pub known: Known,
     pub frames: u64,
 }
 
@@ -26,26 +26,29 @@ pub struct Checked {
 fn refused(c: Checked, refusal: u32) -> Checked
     ensures { λ r. ⌜ r ≡ Checks.refusedAt refusal c ⌝ }
 {
+    let known = c.known;
     Checked {
         refusal: refusal,
         at: c.at,
-        voices: c.voices,
+        known: known,
         frames: c.frames,
     }
 }
 
-fn refused_voice(voices: usize, voice: u8) -> u32
-    ensures { λ r. ⌜ r ≡ cond (ltb voice voices) 0 2 ⌝ }
+// Whether a call that names this voice is refused: by the later tests' number if the voice is there.
+fn named(known: Known, voice: u8, later: u32) -> u32
+    ensures { λ r. ⌜ r ≡ Calls.named known voice later ⌝ }
 {
-    if (voice as usize) < voices {
-        return ACCEPTED;
+    let refusal = bank::refused_voice(known, voice as usize);
+    if refusal != ACCEPTED {
+        return refusal;
     }
-    NO_SUCH_VOICE
+    later
 }
 
-// The number by which the event's call is refused in a bank of so many voices.
-fn own_refusal(voices: usize, event: Event) -> u32
-    ensures { λ r. ⌜ r ≡ Deeds.ownRefusal (Deeds.knownOf voices) (Deeds.deed (Deeds.knownOf voices) event) ⌝ }
+// The number by which the event's call is refused after what is known.
+fn own_refusal(known: Known, event: Event) -> u32
+    ensures { λ r. ⌜ r ≡ Deeds.ownRefusal known (Deeds.deed known event) ⌝ }
 {
     match event {
         Event::Open {
@@ -54,38 +57,32 @@ fn own_refusal(voices: usize, event: Event) -> u32
             params,
         } => bank::refused_opening(voices as usize, params, timing),
         Event::SetParams { voice, params } => {
-            if (voice as usize) < voices {
-                return settings::refused_params(params);
-            }
-            NO_SUCH_VOICE
+            named(known, voice, settings::refused_params(params))
         }
         Event::SetAllParams(params) => settings::refused_params(params),
         Event::SetTiming(timing) => settings::refused_timing(timing),
-        Event::Trigger { voice, trigger: _ } => refused_voice(voices, voice),
-        Event::Release(voice) => refused_voice(voices, voice),
-        Event::Reset(voice) => refused_voice(voices, voice),
-        Event::Join { voice, from } => {
-            if (voice as usize) < voices {
-                return refused_voice(voices, from);
-            }
-            NO_SUCH_VOICE
-        }
+        Event::Trigger { voice, trigger: _ } => named(known, voice, ACCEPTED),
+        Event::Release(voice) => named(known, voice, ACCEPTED),
+        Event::Reset(voice) => named(known, voice, ACCEPTED),
+        Event::Join { voice, from } => named(known, voice, named(known, from, ACCEPTED)),
         Event::Frames(_) => ACCEPTED,
     }
 }
 
-// The voices of the bank after an event.
-fn voices_after(voices: usize, event: Event) -> usize
-    ensures { λ r. ⌜ r ≡ Deeds.knownAfter (Deeds.knownOf voices) (Deeds.deed (Deeds.knownOf voices) event) .voices ⌝ }
+// What is known of the bank after an event.
+fn known_after(known: Known, event: Event) -> Known
+    ensures { λ r. ⌜ r ≡ Deeds.knownAfter known (Deeds.deed known event) ⌝ }
 {
     if let Event::Open {
         voices,
         timing: _,
         params: _,
     } = event {
-        return voices as usize;
+        return Known {
+            voices: voices as usize,
+        };
     }
-    voices
+    known
 }
 
 fn frames_of(event: Event) -> u64
@@ -99,29 +96,30 @@ fn frames_of(event: Event) -> u64
 
 // One record more, that says this and ends before `next`.
 fn judged(c: Checked, event: Event, next: usize, room: u64) -> Checked
-    requires { ⌜ (c .voices ≤ 64) × (c .frames ≤ room) × (room < 2 ^ 62) ⌝ }
+    requires { ⌜ (c .known .voices ≤ Memory.maxVoices) × (c .frames ≤ room) × (room < 2 ^ 62) ⌝ }
     ensures { λ r. ⌜ r ≡ Checks.judged room c event next ⌝ }
 {
-    let refusal = own_refusal(c.voices, event);
+    let known = c.known;
+    let refusal = own_refusal(known, event);
     if refusal != ACCEPTED {
         return refused(c, refusal);
     }
-    let voices = voices_after(c.voices, event);
+    let after = known_after(known, event);
     let frames = c.frames + frames_of(event);
-    if frames > room / (bank::stride_of(voices) as u64) {
+    if frames > room / (bank::stride_of(after.voices) as u64) {
         return refused(c, OUTPUT_TOO_SHORT);
     }
     Checked {
         refusal: ACCEPTED,
         at: next,
-        voices: voices,
+        known: after,
         frames: frames,
     }
 }
 
 // One record more.
 fn record(list: &[u8], c: Checked, room: u64) -> Checked
-    requires { ⌜ (c .voices ≤ 64) × (c .frames ≤ room) × (room < 2 ^ 62) ⌝ }
+    requires { ⌜ (c .known .voices ≤ Memory.maxVoices) × (c .frames ≤ room) × (room < 2 ^ 62) ⌝ }
     ensures { λ r. ⌜ r ≡ Checks.met room c (Format.read (now (list .entry)) (c .at)) ⌝ }
 {
     match events::read(list, c.at) {
@@ -135,10 +133,11 @@ pub fn check(list: &[u8], out_len: usize) -> Checked
     ensures { λ r. ⌜ r ≡ Checks.checked (now (list .entry)) «out_len» ⌝ }
 {
     let room = (out_len / 4) as u64;
+    let known = Known { voices: 0 };
     let mut c = Checked {
         refusal: ACCEPTED,
         at: 0,
-        voices: 0,
+        known: known,
         frames: 0,
     };
     if list.len() == 0 {

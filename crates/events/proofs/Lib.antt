@@ -1,4 +1,3 @@
 -- Laws of the format.
 mod Numbers
-mod Tags
 pub mod Records

@@ -4,7 +4,8 @@ use mathlib.Core.List.{List}
 use Prim.Native.Nat.{ℕ, suc, _+_, _-_, _*_}
 use native.Mathlib.Numerals.{add-one, add-two, add-three, add-four}
 use native.Mathlib.Omega.{arith}
-use Rattle.events.specs.Format.{byte, number}
+use Rattle.numbers.specs.Bytes.{number}
+use Rattle.events.specs.Format.{byte}
 
 module _ (l : List ℕ) (i : ℕ) where
   pub two-bytes : byte l (i + 1) + byte l (i + 2) * 256 ≡ number 2 l (i + 1)

@@ -2,15 +2,17 @@
 -- list; a refused one has a number from 6 on.
 use mathlib.Core.Path.{_≡_, refl, sym, _∙_}
 use mathlib.Core.Bool.{Bool, true, false, cond, not}
-use mathlib.Core.List.{List}
-use Prim.Native.Nat.{ℕ, _+_, _≤_}
+use mathlib.Core.List.{List, map}
+use Prim.Native.Nat.{ℕ, zero, suc, _+_, _-_, _≤_}
 use native.Mathlib.Omega.{arith}
-use borrow.Author.Tests.{ltb-false, not-true, not-false}
+use borrow.Author.Tests.{ltb-false, ne-eqb, not-true, not-false}
 use lib.Dec.{ltb, eqb}
-use lib.ListN.{length}
+use lib.ListN.{length, getD, replicate, List·getD-map}
+use Rattle.numbers.specs.Bytes.{number}
 use Rattle.events.specs.declared.Event.{Event}
 use Rattle.events.specs.declared.Reading.{Reading}
-use Rattle.events.specs.Format.{byte, number, bodyLength, named, ifNamed, meaning, placed, read}
+use Rattle.events.specs.declared.Tag.{Tag}
+use Rattle.events.specs.Format.{byte, tags, tagOf, bodyLength, named, ifNamed, meaning, placed, read}
 
 abbrev pub opens : Event → Bool
 opens (Event.Open voices timing params) = true
@@ -32,24 +34,49 @@ by-test : (Q : Reading → Type 0) (t : Bool) {x y : Reading} → (t ≡ true �
 by-test Q true p q = p refl
 by-test Q false p q = q refl
 
-module _ (first : Bool) (P : ℕ → Type 0) (tag : ℕ) (l : List ℕ) (i next : ℕ) (o : eqb tag 1 ≡ first) (p : P next) where
-  abbrev Q : Reading → Type 0
-  Q = Accepts first P
+-- Whether a tag is an open's, 1.
+abbrev openTag : Tag → Bool
+openTag Tag.Unknown = false
+openTag Tag.Open = true
+openTag Tag.SetParams = false
+openTag Tag.SetAllParams = false
+openTag Tag.SetTiming = false
+openTag Tag.Trigger = false
+openTag Tag.Release = false
+openTag Tag.Reset = false
+openTag Tag.Join = false
+openTag Tag.Frames = false
 
-  if-named : (t : Bool) (e : Event) → opens e ≡ eqb tag 1 → Q (ifNamed t e next)
-  if-named t e q = by-test Q t (λ z. (q ∙ o, p)) (λ z. omega arith)
+open-number : (n : ℕ) → openTag (tagOf n) ≡ eqb n 1
+open-number n = sym (List·getD-map openTag tags n Tag.Unknown) ∙ second n
+  where
+    none : (m n : ℕ) → getD (replicate m false) n false ≡ false
+    none zero n = refl
+    none (suc m) zero = refl
+    none (suc m) (suc n) = none m n
 
-  meant : Q (meaning tag l i next)
+    -- Of a table's lines the second alone.
+    second : (n : ℕ) → getD (map openTag tags) n false ≡ eqb n 1
+    second zero = refl
+    second (suc zero) = refl
+    second (suc (suc n)) = none (length tags - 2) n ∙ sym (ne-eqb (suc (suc n)) 1 (λ z. omega arith))
+
+module _ (first : Bool) (P : ℕ → Type 0) (l : List ℕ) (i next : ℕ) (p : P next) where
+  if-named : (t : Bool) (e : Event) → opens e ≡ first → Accepts first P (ifNamed t e next)
+  if-named t e q = by-test (Accepts first P) t (λ z. (q, p)) (λ z. omega arith)
+
+  meant : (tag : Tag) → openTag tag ≡ first → Accepts first P (meaning tag l i next)
   unfolding meaning
-  meant =
-      by-test Q (eqb tag 1) (λ e. if-named (named l (i + 25)) _ (sym e)) (λ e.
-      by-test Q (eqb tag 2) (λ z. if-named (named l (i + 1)) _ (sym e)) (λ z.
-      by-test Q (eqb tag 3) (λ z. if-named (named l i) _ (sym e)) (λ z.
-      by-test Q (eqb tag 4) (λ z. (sym e ∙ o, p)) (λ z.
-      by-test Q (eqb tag 5) (λ z. if-named (ltb (byte l (i + 1)) 3) _ (sym e)) (λ z.
-      by-test Q (eqb tag 6) (λ z. (sym e ∙ o, p)) (λ z.
-      by-test Q (eqb tag 7) (λ z. (sym e ∙ o, p)) (λ z.
-      by-test Q (eqb tag 8) (λ z. (sym e ∙ o, p)) (λ z. (sym e ∙ o, p)))))))))
+  meant Tag.Unknown o = omega arith
+  meant Tag.Open o = if-named (named l (i + 25)) _ o
+  meant Tag.SetParams o = if-named (named l (i + 1)) _ o
+  meant Tag.SetAllParams o = if-named (named l i) _ o
+  meant Tag.SetTiming o = (o, p)
+  meant Tag.Trigger o = if-named (ltb (byte l (i + 1)) 3) _ o
+  meant Tag.Release o = (o, p)
+  meant Tag.Reset o = (o, p)
+  meant Tag.Join o = (o, p)
+  meant Tag.Frames o = (o, p)
 
 -- Where a record may stand: an open at byte 0 and only there.
 stands : (f o : Bool) → cond f o (not o) ≡ true → o ≡ f
@@ -63,7 +90,7 @@ Within l at next = (at + 3 ≤ next) × (next ≤ length l)
 accepted : (l : List ℕ) (at : ℕ) → Accepts (eqb at 0) (Within l at) (read l at)
 unfolding read
 accepted l at =
-    let tag = byte l at in
+    let tag = tagOf (byte l at) in
     let n = number 2 l (at + 1) in
     let next = at + 3 + n in
     let Q : Reading → Type 0 = Accepts (eqb at 0) (Within l at) in
@@ -71,9 +98,9 @@ accepted l at =
     by-test Q (ltb (length l) next) (λ z. omega arith) (λ e.
     by-test Q (eqb (bodyLength tag) 0) (λ z. omega arith) (λ z.
     by-test Q (not (eqb n (bodyLength tag))) (λ z. omega arith) (λ z.
-    by-test Q (not (placed tag at)) (λ z. omega arith) (λ d.
-    let o = stands (eqb at 0) (eqb tag 1) (not-false (placed tag at) d) in
-    meant (eqb at 0) (Within l at) tag l (at + 3) next o (omega arith, ltb-false (length l) next e))))))
+    by-test Q (not (placed (byte l at) at)) (λ z. omega arith) (λ d.
+    let o = stands (eqb at 0) (eqb (byte l at) 1) (not-false (placed (byte l at) at) d) in
+    meant (eqb at 0) (Within l at) l (at + 3) next (omega arith, ltb-false (length l) next e) tag (open-number (byte l at) ∙ o))))))
 
 module _ (l : List ℕ) (at : ℕ) (e : Event) (next : ℕ) (h : read l at ≡ Reading.Record e next) where
   right : Accepts (eqb at 0) (Within l at) (Reading.Record e next)

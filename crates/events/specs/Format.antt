@@ -1,10 +1,11 @@
 -- What stands in an event list, byte by byte: document 01, 'The event list', and the numbers 6 to 10 of "No's, by call".
-use Prim.Native.Nat.{ℕ, zero, suc, _+_, _*_}
+use Prim.Native.Nat.{ℕ, zero, suc, _+_}
 use mathlib.Core.Bool.{Bool, cond, not, _&&_}
-use mathlib.Core.List.{List}
+use mathlib.Core.List.{List, [], _∷_}
 use lib.Dec.{ltb, eqb}
 use lib.ListN.{length, getD}
 use lib.Ieee.{Float, binary32, binary64, ofBits}
+use Rattle.numbers.specs.Bytes.{number}
 use Rattle.timing.specs.declared.Timing.{Timing}
 use Rattle.timing.specs.declared.TimeUnit.{TimeUnit}
 use Rattle.timing.specs.declared.TimeUnit.the-variants.{Milliseconds, Tempo}
@@ -15,18 +16,14 @@ use Rattle.settings.specs.declared.settings.Trigger.{Trigger}
 use Rattle.settings.specs.declared.settings.Trigger.the-variants.{New, Retrigger, Legato}
 use Rattle.events.specs.declared.Event.{Event}
 use Rattle.events.specs.declared.Reading.{Reading}
+use Rattle.events.specs.declared.Tag.{Tag}
 
 -- ---- numbers
 
 abbrev pub byte : List ℕ → ℕ → ℕ
 byte l i = getD l i 0
 
--- The number in n bytes from byte i on, the lowest first.
-unfoldable pub number : ℕ → List ℕ → ℕ → ℕ
-number zero l i = 0
-number (suc n) l i = byte l i + 256 * number n l (suc i)
-
--- The binary32 and the binary64 there. Every NaN pattern is NaN.
+-- The binary32 and the binary64 from byte i on. Every NaN pattern is NaN.
 abbrev pub single : List ℕ → ℕ → Float
 single l i = ofBits binary32 (number 4 l i)
 
@@ -79,50 +76,67 @@ named l i = ltb (byte l i) 2 && (ltb (byte l (i + 45)) 2 && ltb (byte l (i + 46)
 
 -- ---- records
 
+-- The tags by their numbers, from 0, which is no tag's. A number past them is no tag's either.
+abbrev pub tags : List Tag
+tags =
+    Tag.Unknown
+    ∷ Tag.Open
+    ∷ Tag.SetParams
+    ∷ Tag.SetAllParams
+    ∷ Tag.SetTiming
+    ∷ Tag.Trigger
+    ∷ Tag.Release
+    ∷ Tag.Reset
+    ∷ Tag.Join
+    ∷ Tag.Frames
+    ∷ []
+
+abbrev pub tagOf : ℕ → Tag
+tagOf n = getD tags n Tag.Unknown
+
 -- The body's length by the tag, 0 if the tag is unknown: no body is empty.
-unfoldable pub bodyLength : ℕ → ℕ
-bodyLength tag =
-    cond (eqb tag 1) 72
-    (cond (eqb tag 2) 48
-    (cond (eqb tag 3) 47
-    (cond (eqb tag 4) 24
-    (cond (eqb tag 5) 2
-    (cond (eqb tag 6) 1
-    (cond (eqb tag 7) 1
-    (cond (eqb tag 8) 2
-    (cond (eqb tag 9) 4
-    0))))))))
+abbrev pub bodyLength : Tag → ℕ
+bodyLength Tag.Unknown = 0
+bodyLength Tag.Open = 72
+bodyLength Tag.SetParams = 48
+bodyLength Tag.SetAllParams = 47
+bodyLength Tag.SetTiming = 24
+bodyLength Tag.Trigger = 2
+bodyLength Tag.Release = 1
+bodyLength Tag.Reset = 1
+bodyLength Tag.Join = 2
+bodyLength Tag.Frames = 4
 
 -- The event, or 10 if a code byte has no name.
 abbrev pub ifNamed : Bool → Event → ℕ → Reading
 ifNamed b e next = cond b (Reading.Record e next) (Reading.Refused 10)
 
--- A known tag's event, whose body begins at byte i and ends before byte `next`.
-unfoldable pub meaning : ℕ → List ℕ → ℕ → ℕ → Reading
-meaning tag l i next =
-    cond (eqb tag 1) (ifNamed (named l (i + 25)) (Event.Open (byte l i) (timing l (i + 1)) (params l (i + 25))) next)
-    (cond (eqb tag 2) (ifNamed (named l (i + 1)) (Event.SetParams (byte l i) (params l (i + 1))) next)
-    (cond (eqb tag 3) (ifNamed (named l i) (Event.SetAllParams (params l i)) next)
-    (cond (eqb tag 4) (Reading.Record (Event.SetTiming (timing l i)) next)
-    (cond (eqb tag 5) (ifNamed (ltb (byte l (i + 1)) 3) (Event.Trigger (byte l i) (kind (byte l (i + 1)))) next)
-    (cond (eqb tag 6) (Reading.Record (Event.Release (byte l i)) next)
-    (cond (eqb tag 7) (Reading.Record (Event.Reset (byte l i)) next)
-    (cond (eqb tag 8) (Reading.Record (Event.Join (byte l i) (byte l (i + 1))) next)
-    (Reading.Record (Event.Frames (number 4 l i)) next))))))))
+-- What a record with this tag says, whose body begins at byte i and ends before byte `next`.
+unfoldable pub meaning : Tag → List ℕ → ℕ → ℕ → Reading
+meaning Tag.Unknown l i next = Reading.Refused 7
+meaning Tag.Open l i next = ifNamed (named l (i + 25)) (Event.Open (byte l i) (timing l (i + 1)) (params l (i + 25))) next
+meaning Tag.SetParams l i next = ifNamed (named l (i + 1)) (Event.SetParams (byte l i) (params l (i + 1))) next
+meaning Tag.SetAllParams l i next = ifNamed (named l i) (Event.SetAllParams (params l i)) next
+meaning Tag.SetTiming l i next = Reading.Record (Event.SetTiming (timing l i)) next
+meaning Tag.Trigger l i next = ifNamed (ltb (byte l (i + 1)) 3) (Event.Trigger (byte l i) (kind (byte l (i + 1)))) next
+meaning Tag.Release l i next = Reading.Record (Event.Release (byte l i)) next
+meaning Tag.Reset l i next = Reading.Record (Event.Reset (byte l i)) next
+meaning Tag.Join l i next = Reading.Record (Event.Join (byte l i) (byte l (i + 1))) next
+meaning Tag.Frames l i next = Reading.Record (Event.Frames (number 4 l i)) next
 
--- Whether a record stands where it may: an open at byte 0, where the first record is, and nowhere else.
+-- Whether a record with the tag of number n stands where it may: an open, 1, at byte 0, where the first record is, and nowhere else.
 abbrev pub placed : ℕ → ℕ → Bool
-placed tag at = cond (eqb at 0) (eqb tag 1) (not (eqb tag 1))
+placed n at = cond (eqb at 0) (eqb n 1) (not (eqb n 1))
 
 -- The record at byte `at`, tested in document 01's order: 6 its head or its body doesn't fit, 7 an unknown tag, 8 a wrong length, 9 an open that
 -- isn't first or a first record that is no open, 10 a code byte without a name.
 unfoldable pub read : List ℕ → ℕ → Reading
 read l at =
-    let tag = byte l at in
+    let tag = tagOf (byte l at) in
     let len = number 2 l (at + 1) in
     cond (ltb (length l) (at + 3)) (Reading.Refused 6)
     (cond (ltb (length l) (at + 3 + len)) (Reading.Refused 6)
     (cond (eqb (bodyLength tag) 0) (Reading.Refused 7)
     (cond (not (eqb len (bodyLength tag))) (Reading.Refused 8)
-    (cond (not (placed tag at)) (Reading.Refused 9)
+    (cond (not (placed (byte l at) at)) (Reading.Refused 9)
     (meaning tag l (at + 3) (at + 3 + len))))))

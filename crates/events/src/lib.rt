@@ -2,6 +2,9 @@
 ghost use mathlib.Core.Path.{_≡_};
 ghost use Prim.Native.Nat.{_+_, _≤_, _<_, _^_};
 ghost use lib.ListN.{length};
+ghost use Rattle.numbers.specs.Bytes as Bytes;
+ghost use Rattle.events.specs.declared.Event.{Event};
+ghost use Rattle.events.specs.declared.Reading.{Reading};
 ghost use Rattle.events.specs.Format as Format;
 use settings::CUT_SHORT;
 use settings::EnvelopeParams;
@@ -47,6 +50,34 @@ pub enum Reading {
     Refused(u32),
 }
 
+// What kind of record it is. `Unknown` is of the numbers that no kind has.
+pub enum Tag {
+    Unknown,
+    Open,
+    SetParams,
+    SetAllParams,
+    SetTiming,
+    Trigger,
+    Release,
+    Reset,
+    Join,
+    Frames,
+}
+
+// The tags by their numbers.
+const TAGS: [Tag; 10] = [
+    Tag::Unknown,
+    Tag::Open,
+    Tag::SetParams,
+    Tag::SetAllParams,
+    Tag::SetTiming,
+    Tag::Trigger,
+    Tag::Release,
+    Tag::Reset,
+    Tag::Join,
+    Tag::Frames,
+];
+
 fn wide(x: u8) -> u64
     ensures { λ r. ⌜ (r ≡ x) × (r < 2 ^ 8) ⌝ }
 {
@@ -55,7 +86,7 @@ fn wide(x: u8) -> u64
 
 fn u32_at(list: &[u8], at: usize) -> u64
     requires { ⌜ at + 4 ≤ length (now list) ⌝ }
-    ensures { λ r. ⌜ (r ≡ Format.number 4 (now (list .entry)) at) × (r < 2 ^ 32) ⌝ }
+    ensures { λ r. ⌜ (r ≡ Bytes.number 4 (now (list .entry)) at) × (r < 2 ^ 32) ⌝ }
 {
     wide(list[at])
         + wide(list[at + 1]) * 0x100
@@ -154,96 +185,116 @@ fn named(list: &[u8], at: usize) -> bool
     list[at + 46] < 2
 }
 
+fn recorded(event: Event, next: usize) -> Reading
+    ensures { λ r. ⌜ r ≡ Reading.Record event next ⌝ }
+{
+    Reading::Record {
+        event: event,
+        next: next,
+    }
+}
+
 // The event, or that a code byte has no name.
 fn if_named(named: bool, event: Event, next: usize) -> Reading
     ensures { λ r. ⌜ r ≡ Format.ifNamed named event next ⌝ }
 {
     if named {
-        return Reading::Record {
-            event: event,
-            next: next,
-        };
+        return recorded(event, next);
     }
     Reading::Refused(UNNAMED_CODE)
 }
 
+fn tag_of(number: u8) -> Tag
+    ensures { λ r. ⌜ r ≡ Format.tagOf number ⌝ }
+{
+    let tags = TAGS;
+    let at = number as usize;
+    if at >= tags.len() {
+        return Tag::Unknown;
+    }
+    tags[at]
+}
+
 // A body's length by the tag, 0 if the tag is unknown.
-fn body_length(tag: u8) -> usize
+fn body_length(tag: Tag) -> usize
     ensures { λ r. ⌜ r ≡ Format.bodyLength tag ⌝ }
 {
     match tag {
-        1 => 72,
-        2 => 48,
-        3 => 47,
-        4 => 24,
-        5 => 2,
-        6 => 1,
-        7 => 1,
-        8 => 2,
-        9 => 4,
-        _ => 0,
+        Tag::Unknown => 0,
+        Tag::Open => 72,
+        Tag::SetParams => 48,
+        Tag::SetAllParams => 47,
+        Tag::SetTiming => 24,
+        Tag::Trigger => 2,
+        Tag::Release => 1,
+        Tag::Reset => 1,
+        Tag::Join => 2,
+        Tag::Frames => 4,
     }
 }
 
-// The event of a known tag, whose body begins at `at`.
-fn meaning(tag: u8, list: &[u8], at: usize, next: usize) -> Reading
-    requires { ⌜ (1 ≤ Format.bodyLength tag) × (at + Format.bodyLength tag ≤ length (now list)) ⌝ }
+fn open_at(list: &[u8], at: usize) -> Event
+    requires { ⌜ at + 72 ≤ length (now list) ⌝ }
+    ensures { λ r. ⌜ r ≡ Event.Open (Format.byte (now (list .entry)) at) (Format.timing (now (list .entry)) (at + 1)) (Format.params (now (list .entry)) (at + 25)) ⌝ }
+{
+    Event::Open {
+        voices: list[at],
+        timing: timing_at(list, at + 1),
+        params: params_at(list, at + 25),
+    }
+}
+
+fn set_params_at(list: &[u8], at: usize) -> Event
+    requires { ⌜ at + 48 ≤ length (now list) ⌝ }
+    ensures { λ r. ⌜ r ≡ Event.SetParams (Format.byte (now (list .entry)) at) (Format.params (now (list .entry)) (at + 1)) ⌝ }
+{
+    Event::SetParams {
+        voice: list[at],
+        params: params_at(list, at + 1),
+    }
+}
+
+fn trigger_at(list: &[u8], at: usize) -> Event
+    requires { ⌜ at + 2 ≤ length (now list) ⌝ }
+    ensures { λ r. ⌜ r ≡ Event.Trigger (Format.byte (now (list .entry)) at) (Format.kind (Format.byte (now (list .entry)) (at + 1))) ⌝ }
+{
+    Event::Trigger {
+        voice: list[at],
+        trigger: kind(list[at + 1]),
+    }
+}
+
+fn join_at(list: &[u8], at: usize) -> Event
+    requires { ⌜ at + 2 ≤ length (now list) ⌝ }
+    ensures { λ r. ⌜ r ≡ Event.Join (Format.byte (now (list .entry)) at) (Format.byte (now (list .entry)) (at + 1)) ⌝ }
+{
+    Event::Join {
+        voice: list[at],
+        from: list[at + 1],
+    }
+}
+
+// A record whose body begins at `at`: each arm needs its own tag's length, and a new tag is the
+// last arm.
+fn meaning(tag: Tag, list: &[u8], at: usize, next: usize) -> Reading
+    requires { ⌜ at + Format.bodyLength tag ≤ length (now list) ⌝ }
     ensures { λ r. ⌜ r ≡ Format.meaning tag (now (list .entry)) at next ⌝ }
 {
     match tag {
-        1 => if_named(
-            named(list, at + 25),
-            Event::Open {
-                voices: list[at],
-                timing: timing_at(list, at + 1),
-                params: params_at(list, at + 25),
-            },
-            next,
-        ),
-        2 => if_named(
-            named(list, at + 1),
-            Event::SetParams {
-                voice: list[at],
-                params: params_at(list, at + 1),
-            },
-            next,
-        ),
-        3 => if_named(
+        Tag::Unknown => Reading::Refused(UNKNOWN_TAG),
+        Tag::Open => if_named(named(list, at + 25), open_at(list, at), next),
+        Tag::SetParams => if_named(named(list, at + 1), set_params_at(list, at), next),
+        Tag::SetAllParams => if_named(
             named(list, at),
             Event::SetAllParams(params_at(list, at)),
             next,
         ),
-        4 => Reading::Record {
-            event: Event::SetTiming(timing_at(list, at)),
-            next: next,
-        },
-        5 => if_named(
-            list[at + 1] < 3,
-            Event::Trigger {
-                voice: list[at],
-                trigger: kind(list[at + 1]),
-            },
-            next,
-        ),
-        6 => Reading::Record {
-            event: Event::Release(list[at]),
-            next: next,
-        },
-        7 => Reading::Record {
-            event: Event::Reset(list[at]),
-            next: next,
-        },
-        8 => Reading::Record {
-            event: Event::Join {
-                voice: list[at],
-                from: list[at + 1],
-            },
-            next: next,
-        },
-        _ => Reading::Record {
-            event: Event::Frames(u32_at(list, at) as u32),
-            next: next,
-        },
+        Tag::SetTiming => recorded(Event::SetTiming(timing_at(list, at)), next),
+        Tag::Trigger => if_named(list[at + 1] < 3, trigger_at(list, at), next),
+        Tag::Release => recorded(Event::Release(list[at]), next),
+        Tag::Reset => recorded(Event::Reset(list[at]), next),
+        Tag::Join => recorded(join_at(list, at), next),
+        Tag::Frames => recorded(Event::Frames(u32_at(list, at) as u32), next),
     }
 }
 
@@ -259,11 +310,12 @@ pub fn read(list: &[u8], at: usize) -> Reading
     if list.len() - 3 < at {
         return Reading::Refused(CUT_SHORT);
     }
-    let tag = list[at];
+    let number = list[at];
     let len = (wide(list[at + 1]) + wide(list[at + 2]) * 0x100) as usize;
     if list.len() - 3 - at < len {
         return Reading::Refused(CUT_SHORT);
     }
+    let tag = tag_of(number);
     let wanted = body_length(tag);
     if wanted == 0 {
         return Reading::Refused(UNKNOWN_TAG);
@@ -272,10 +324,10 @@ pub fn read(list: &[u8], at: usize) -> Reading
         return Reading::Refused(WRONG_LENGTH);
     }
     if at == 0 {
-        if tag != 1 {
+        if number != 1 {
             return Reading::Refused(MISPLACED_OPEN);
         }
-    } else if tag == 1 {
+    } else if number == 1 {
         return Reading::Refused(MISPLACED_OPEN);
     }
     meaning(tag, list, at + 3, at + 3 + len)

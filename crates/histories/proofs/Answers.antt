@@ -10,15 +10,15 @@ use Rattle.numbers.specs.Constants as Constants
 use Rattle.curve.specs.Segments as Segments
 use Rattle.envelope.specs.declared.envelopes.Envelope.{Envelope}
 use Rattle.envelope.specs.Envelopes as Envelopes
-use Rattle.bank.specs.declared.banks.EnvelopeBank.{EnvelopeBank}
-use Rattle.bank.specs.Calls.{Query, Call, Known, ifAccepted, queryRefusal, refusal}
+use Rattle.bank.specs.declared.known.Known.{Known}
+use Rattle.bank.specs.Calls.{Query, Call, ifAccepted, queryRefusal, refusal}
 use Rattle.rows.specs.Strides.{strideOf}
-use Rattle.bank.specs.Banks.{voice, size, known, envelope, frames, row, rows, answer}
+use Rattle.bank.specs.Banks.{Bank, voice, size, known, envelope, frames, row, rows, answer}
 use Rattle.bank.specs.Replies.{Reply, told, answered, reply}
-use Rattle.bank.proofs.Lanes.{tabulate-ext}
+use Rattle.filled.proofs.Tables.{tabulate-ext}
+use Rattle.bank.proofs.Frames.{frames-last}
+use Rattle.bank.proofs.Accepted.{named}
 use Rattle.histories.specs.Demand.{envelopeOf, levelOf, Reading, history, read, repliesFrom, dueRows, due, dues}
-use Rattle.histories.proofs.Rows.{frames-last}
-use Rattle.histories.proofs.Kept.{named}
 use Rattle.histories.proofs.Stands.{Stands, call-stands, later}
 
 -- A row reads the levels of its voices only.
@@ -29,18 +29,18 @@ row-ext n f g h = tabulate-ext (strideOf n) _ _ (λ v i. go v (ltb v n) refl)
     go v true e = h v (ltb-true v n e)
     go v false e = refl
 
-row-due : (b : EnvelopeBank) (r : Reading) → Stands b r
+row-due : (b : Bank) (r : Reading) → Stands b r
     → row (size b) (λ v. Segments.level (voice b v .seg)) ≡ row (r .known .voices) (λ v. levelOf (history r v))
 row-due b r s =
     subst (λ (k : Known). row (size b) (λ v. Segments.level (voice b v .seg)) ≡ row (k .voices) (λ v. levelOf (history r v))) (s .knows)
     (row-ext (size b) _ _ (λ v h. ap Envelopes.level (s .at v h)))
 
-rows-due : (m k : ℕ) (b : EnvelopeBank) (r : Reading) → Stands b r → rows m (frames k b) ≡ dueRows r k m
+rows-due : (m k : ℕ) (b : Bank) (r : Reading) → Stands b r → rows m (frames k b) ≡ dueRows r k m
 rows-due zero k b r s = refl
 rows-due (suc m) k b r s =
     ap₂ (λ (x y : List Float). x ++ y) (row-due _ _ (later k b r s)) (ap (rows m) (frames-last k b) ∙ rows-due m (suc k) b r s)
 
-module _ (b : EnvelopeBank) (r : Reading) (s : Stands b r) where
+module _ (b : Bank) (r : Reading) (s : Stands b r) where
   told-due : (q : Query) → queryRefusal (known b) q ≡ 0 → told (known b) (envelope b) q ≡ told (known b) (λ v. envelopeOf (history r v)) q
   unfolding told queryRefusal
   told-due (Query.params v) a = ap (λ (e : Envelope). Reply.params (Envelopes.params e)) (s .at v (named (known b) v 0 a .0))
@@ -81,7 +81,7 @@ module _ (b : EnvelopeBank) (r : Reading) (s : Stands b r) where
       go zero e = answered-due c e
       go (suc n) e = refl
 
-pub replies-due : (b : EnvelopeBank) (r : Reading) → Stands b r → (cs : List Call) → repliesFrom b cs ≡ dues r cs
+pub replies-due : (b : Bank) (r : Reading) → Stands b r → (cs : List Call) → repliesFrom b cs ≡ dues r cs
 unfolding repliesFrom dues
 replies-due b r s [] = refl
 replies-due b r s (c ∷ cs) =

@@ -1,32 +1,21 @@
 -- A block anywhere in a list: it passes its frames, and may be cut in two.
 use mathlib.Core.Path.{_≡_, sym, ap, ap₂, _∙_, subst, fun-ext}
 use mathlib.Core.List.{List, [], _∷_, _++_, append-assoc}
-use Prim.Native.Nat.{ℕ, _+_, _*_, _/_}
+use Prim.Native.Nat.{ℕ, _+_, _*_}
 use native.Mathlib.Omega.{arith}
-use native.Mathlib.Nat.{mul-mod-left, mul-div-cancel}
 use lib.ListN.{length, length-append, replicate-append-replicate}
 use lib.Ieee.{Float}
-use Rattle.bank.specs.declared.banks.EnvelopeBank.{EnvelopeBank}
-use Rattle.bank.specs.Calls.{Opening, Call, Known, refusal}
+use Rattle.bank.specs.Calls.{Opening, Call}
 use Rattle.rows.specs.Strides.{strideOf}
-use Rattle.bank.specs.Banks.{size, known, frames, rows, moved, answer, new, written}
+use Rattle.bank.specs.Banks.{Bank, size, known, frames, rows, answer, new, written}
+use Rattle.bank.proofs.Frames.{frames-size, frames-add, rows-add}
+use Rattle.bank.proofs.Accepted.{whole, block-frames}
 use Rattle.histories.specs.Demand.{Entry, run, framesMore, effect, Reading, history, read, firstReading, reading}
 use Rattle.histories.specs.Demand.{bankAfter, repliesFrom, voicesOf, stride, block, writtenAfter, Cut}
 use Rattle.histories.proofs.Lists.{run-append}
-use Rattle.histories.proofs.Rows.{stride-holds, frames-size, frames-add, rows-add}
 use Rattle.histories.proofs.Stands.{reading-voices, bank-voices}
 
--- Whole frames are accepted, and pass.
-pub whole : (k : Known) (a : ℕ) → (refusal k (Call.process (a * strideOf (k .voices))) ≡ 0) × (a * strideOf (k .voices) / strideOf (k .voices) ≡ a)
-unfolding refusal
-whole k a = (rw (mul-mod-left a (strideOf (k .voices))), mul-div-cancel a (stride-holds (k .voices) .1))
-
-pub block-frames : (b : EnvelopeBank) (n a : ℕ) → size b ≡ n → answer b (Call.process (a * strideOf n)) .bank ≡ frames a b
-unfolding answer moved
-block-frames b n a e =
-    subst (λ (n : ℕ). answer b (Call.process (a * strideOf n)) .bank ≡ frames a b) e (rw (whole (known b) a .0, whole (known b) a .1))
-
-pub block-rows : (b : EnvelopeBank) (n a : ℕ) (out : List Float) → size b ≡ n → length out ≡ a * strideOf n → written b out ≡ rows a b
+pub block-rows : (b : Bank) (n a : ℕ) (out : List Float) → size b ≡ n → length out ≡ a * strideOf n → written b out ≡ rows a b
 unfolding written
 block-rows b n a out e =
     subst (λ (n : ℕ). length out ≡ a * strideOf n → written b out ≡ rows a b) e (λ f. rw (f, whole (known b) a .0, whole (known b) a .1))
@@ -54,12 +43,12 @@ unfolding bankAfter
 cut-bank o pre post a c =
     let n = voicesOf o in
     let b = bankAfter o pre in
-    let f : EnvelopeBank → Call → EnvelopeBank = λ b c. answer b c .bank in
+    let f : Bank → Call → Bank = λ b c. answer b c .bank in
     let at : size b ≡ n = bank-voices o pre in
     run-append f (new o .bank) pre (block o (a + c) ∷ post)
-    ∙ ap (λ (x : EnvelopeBank). run f x post)
+    ∙ ap (λ (x : Bank). run f x post)
     (block-frames b n (a + c) at ∙ frames-add a c b
-    ∙ sym (block-frames (frames a b) n c (frames-size a b ∙ at)) ∙ sym (ap (λ (x : EnvelopeBank). f x (block o c)) (block-frames b n a at)))
+    ∙ sym (block-frames (frames a b) n c (frames-size a b ∙ at)) ∙ sym (ap (λ (x : Bank). f x (block o c)) (block-frames b n a at)))
     ∙ sym (run-append f (new o .bank) pre (block o a ∷ block o c ∷ post))
 
 cut-reading : (o : Opening) (pre post : List Call) (a c : ℕ)
@@ -79,7 +68,7 @@ cut-reading o pre post a c =
 half : (o : Opening) (pre : List Call) (a : ℕ) → bankAfter o (pre ++ block o a ∷ []) ≡ frames a (bankAfter o pre)
 unfolding bankAfter
 half o pre a =
-    run-append (λ (b : EnvelopeBank) (c : Call). answer b c .bank) (new o .bank) pre (block o a ∷ [])
+    run-append (λ (b : Bank) (c : Call). answer b c .bank) (new o .bank) pre (block o a ∷ [])
     ∙ block-frames (bankAfter o pre) (voicesOf o) a (bank-voices o pre)
 
 cut-written : (o : Opening) (pre : List Call) (a c : ℕ) (out₁ out₂ : List Float) → length out₁ ≡ a * stride o → length out₂ ≡ c * stride o
@@ -91,13 +80,13 @@ cut-written o pre a c out₁ out₂ e₁ e₂ =
     let e : length (out₁ ++ out₂) ≡ (a + c) * stride o = length-append out₁ out₂ ∙ omega arith in
     block-rows b n (a + c) (out₁ ++ out₂) at e ∙ rows-add a c b
     ∙ ap₂ (λ (x y : List Float). x ++ y) (sym (block-rows b n a out₁ at e₁))
-    (sym (ap (λ (x : EnvelopeBank). written x out₂) (half o pre a) ∙ block-rows (frames a b) n c out₂ (frames-size a b ∙ at) e₂))
+    (sym (ap (λ (x : Bank). written x out₂) (half o pre a) ∙ block-rows (frames a b) n c out₂ (frames-size a b ∙ at) e₂))
 
 pub cut-block : (o : Opening) (pre post : List Call) (a c : ℕ) → Cut o pre post a c
 cut-block o pre post a c =
     record {
       bank = cut-bank o pre post a c;
       reading = cut-reading o pre post a c;
-      replies = ap (λ (b : EnvelopeBank). repliesFrom b post) (cut-bank o pre [] a c);
+      replies = ap (λ (b : Bank). repliesFrom b post) (cut-bank o pre [] a c);
       written = cut-written o pre a c;
     }

@@ -2,15 +2,16 @@
 use mathlib.Core.Path.{_≡_, refl, sym, ap, _∙_}
 use mathlib.Core.Logic.{_≢_}
 use mathlib.Core.List.{List, [], _∷_, _++_}
-use Prim.Native.Nat.{ℕ, zero, suc, _<_}
+use Prim.Native.Nat.{ℕ, _<_}
 use native.Mathlib.Omega.{arith}
 use borrow.Author.Tests.{lt-ltb, eq-eqb}
 use Rattle.settings.specs.declared.settings.Trigger.{Trigger}
 use Rattle.settings.specs.declared.settings.Trigger.the-variants.{New}
 use Rattle.envelope.specs.Envelopes as Envelopes
-use Rattle.bank.specs.declared.banks.EnvelopeBank.{EnvelopeBank}
-use Rattle.bank.specs.Calls.{Opening, Call, Known, ifAccepted, openingRefusal, refusal}
-use Rattle.bank.specs.Banks.{known, moved, answer, new}
+use Rattle.bank.specs.declared.known.Known.{Known}
+use Rattle.bank.specs.Calls.{Opening, Call, openingRefusal, refusal}
+use Rattle.bank.specs.Banks.{Bank, known, moved, answer, new}
+use Rattle.bank.proofs.Accepted.{if-refused}
 use Rattle.histories.specs.Demand.{Entry, History, more, framesMore, envelopeOf, levelOf, settingsOf, timingOf}
 use Rattle.histories.specs.Demand.{effect, Reading, history, grown, read, firstReading, reading, historyOf}
 use Rattle.histories.specs.Demand.{bankAfter, envelopeAt, stageAt, voicesOf, block, stageAfter, OneList, TwoLists, NoteInBank, Demand3}
@@ -24,22 +25,18 @@ use Rattle.histories.proofs.Notes.{note-lengths}
 
 -- ---- one list
 
-refused-value : {A : Type 0} (n : ℕ) (a b : A) → n ≢ 0 → ifAccepted n a b ≡ b
-refused-value zero a b d = absurd (d refl)
-refused-value (suc n) a b d = refl
-
 refused-bank : (o : Opening) (pre : List Call) (c : Call) → refusal (reading o pre .known) c ≢ 0 → bankAfter o (pre ++ c ∷ []) ≡ bankAfter o pre
 unfolding bankAfter answer
 refused-bank o pre c d =
     let b = bankAfter o pre in
-    run-append (λ (b : EnvelopeBank) (c : Call). answer b c .bank) (new o .bank) pre (c ∷ [])
-    ∙ refused-value (refusal (known b) c) (moved b c) b (λ e. d (ap (λ (k : Known). refusal k c) (sym (stands o pre .knows)) ∙ e))
+    run-append (λ (b : Bank) (c : Call). answer b c .bank) (new o .bank) pre (c ∷ [])
+    ∙ if-refused (refusal (known b) c) (moved b c) b (λ e. d (ap (λ (k : Known). refusal k c) (sym (stands o pre .knows)) ∙ e))
 
 refused-reading : (o : Opening) (pre : List Call) (c : Call) → refusal (reading o pre .known) c ≢ 0 → reading o (pre ++ c ∷ []) ≡ reading o pre
 unfolding reading read
 refused-reading o pre c d =
     let r = reading o pre in
-    run-append read (firstReading o) pre (c ∷ []) ∙ refused-value (refusal (r .known) c) (grown r c) r d
+    run-append read (firstReading o) pre (c ∷ []) ∙ if-refused (refusal (r .known) c) (grown r c) r d
 
 call-number : (o : Opening) (pre : List Call) (c : Call) → answer (bankAfter o pre) c .refusal ≡ refusal (reading o pre .known) c
 unfolding answer

@@ -5,28 +5,19 @@ use mathlib.Core.Bool.{Bool, true, false, cond}
 use mathlib.Core.List.{List, [], _∷_}
 use Prim.Native.Nat.{ℕ, zero, suc, _/_, _<_}
 use native.Mathlib.Omega.{arith}
-use borrow.Author.Tests.{ltb-true, eqb-true}
-use lib.Dec.{ltb, eqb}
+use borrow.Author.Tests.{eqb-true}
+use lib.Dec.{eqb}
 use lib.ListN.{replicate}
 use Rattle.timing.specs.declared.Timing.{Timing}
 use Rattle.lane.specs.declared.lanes.Voice.{Voice}
 use Rattle.envelope.specs.declared.envelopes.Envelope.{Envelope}
-use Rattle.bank.specs.declared.banks.EnvelopeBank.{EnvelopeBank}
-use Rattle.bank.specs.Calls as Calls
-use Rattle.bank.specs.Calls.{Call, Known, learned, refusal}
+use Rattle.bank.specs.declared.known.Known.{Known}
+use Rattle.bank.specs.Calls.{Call, learned, refusal}
 use Rattle.rows.specs.Strides.{strideOf}
-use Rattle.bank.specs.Banks.{voice, size, known, envelope, arrange, put, onAll, withTiming, frame, frames, moved}
-use Rattle.bank.proofs.Frames.{voice-onAll}
+use Rattle.bank.specs.Banks.{Bank, voice, size, known, envelope, put, onAll, withTiming, frame, frames, moved}
+use Rattle.bank.proofs.Frames.{size-put, voice-put, size-onAll, voice-onAll}
+use Rattle.bank.proofs.Accepted.{named}
 use Rattle.histories.specs.Demand.{Entry, run, step, Effect, enter, copy, only, effect}
-use Rattle.histories.proofs.Rows.{voice-put}
-
--- The test for a voice was passed, and so were the later tests.
-pub named : (k : Known) (v later : ℕ) → Calls.named k v later ≡ 0 → (v < k .voices) × (later ≡ 0)
-named k v later e = go (ltb v (k .voices)) refl e
-  where
-    go : (t : Bool) → ltb v (k .voices) ≡ t → cond t later 2 ≡ 0 → (v < k .voices) × (later ≡ 0)
-    go true p q = (ltb-true v (k .voices) p, q)
-    go false p q = absurd (omega arith)
 
 -- What an effect copies from is one of n voices.
 abbrev pub Live : ℕ → Effect → Type 0
@@ -39,27 +30,30 @@ acted e w (enter es) = run step (e w) es
 acted e w (copy u) = e u
 
 -- The bank b′ is b with the effects x on its voices, and k is known of it.
-pub record Kept (b : EnvelopeBank) (x : ℕ → Effect) (k : Known) (b′ : EnvelopeBank) : Type 0 where
+pub record Kept (b : Bank) (x : ℕ → Effect) (k : Known) (b′ : Bank) : Type 0 where
   pub knows : known b′ ≡ k
   pub voices : size b′ ≡ size b
   pub live : (w : ℕ) → Live (size b) (x w)
   pub at : (w : ℕ) → w < size b → envelope b′ w ≡ acted (envelope b) w (x w)
 
-abbrev alone : Timing → Voice → Envelope
+-- Banks of as many voices are known alike.
+pub as-many : {m n : ℕ} → m ≡ n → _≡_ {A = Known} (record { voices = m }) (record { voices = n })
+as-many e = ap {B = Known} (λ (n : ℕ). record { voices = n }) e
+
+abbrev pub alone : Timing → Voice → Envelope
 alone t c = record { voice = c; timing = t }
 
 -- Nothing moves.
-none : (b : EnvelopeBank) → Kept b (λ w. enter []) (known b) b
+none : (b : Bank) → Kept b (λ w. enter []) (known b) b
 none b = record { knows = refl; voices = refl; live = λ w. tt; at = λ w h. refl }
 
 -- The voice v becomes c.
-one : (b : EnvelopeBank) (v : ℕ) (c : Voice) (x : Effect) → Live (size b) x → alone (b .timing) c ≡ acted (envelope b) v x
+one : (b : Bank) (v : ℕ) (c : Voice) (x : Effect) → Live (size b) x → alone (b .timing) c ≡ acted (envelope b) v x
     → Kept b (λ w. only v w x) (known b) (put v c b)
-unfolding put arrange
 one b v c x l e =
     record {
-      knows = refl;
-      voices = refl;
+      knows = as-many (size-put b v c);
+      voices = size-put b v c;
       live = λ w. alive (eqb w v);
       at = λ w h. ap (alone (b .timing)) (voice-put b v c w h) ∙ go w (eqb w v) refl;
     }
@@ -72,27 +66,23 @@ one b v c x l e =
     go w true p = rw (eqb-true w v p) e
     go w false p = refl
 
--- Each voice c becomes f c, which is what the entries es do to it. b₀ is b with its new timing.
-each : (b b₀ : EnvelopeBank) (f : Voice → Voice) (es : List Entry) → size b₀ ≡ size b → ((w : ℕ) → voice b₀ w ≡ voice b w)
-    → ((c : Voice) → alone (b₀ .timing) (f c) ≡ run step (alone (b .timing) c) es)
-    → Kept b (λ w. enter es) (known b) (onAll f b₀)
-unfolding onAll arrange
-each b b₀ f es n s e =
+-- The timing becomes t, and each voice c becomes f c: what the entries es do to it.
+each : (b : Bank) (t : Timing) (f : Voice → Voice) (es : List Entry) → ((c : Voice) → alone t (f c) ≡ run step (alone (b .timing) c) es)
+    → Kept b (λ w. enter es) (known b) (onAll f (withTiming t b))
+each b t f es e =
     record {
-      knows = ap {B = Known} (λ (n : ℕ). record { voices = n }) n;
-      voices = n;
+      knows = as-many (size-onAll f b);
+      voices = size-onAll f b;
       live = λ w. tt;
-      at = λ w h.
-          let i : w < size b₀ = omega arith in
-          ap (alone (b₀ .timing)) (voice-onAll b₀ f w i ∙ ap f (s w)) ∙ e (voice b w);
+      at = λ w h. ap (alone t) (voice-onAll b f w h) ∙ e (voice b w);
     }
 
 -- n frames pass.
-pub kept-frames : (n : ℕ) (b : EnvelopeBank) → Kept b (λ w. enter (replicate n Entry.frame)) (known b) (frames n b)
+pub kept-frames : (n : ℕ) (b : Bank) → Kept b (λ w. enter (replicate n Entry.frame)) (known b) (frames n b)
 unfolding step
 kept-frames zero b = none b
 kept-frames (suc n) b =
-    let now : Kept b (λ w. enter (Entry.frame ∷ [])) (known b) (frame b) = each b b _ (Entry.frame ∷ []) refl (λ w. refl) (λ c. refl) in
+    let now : Kept b (λ w. enter (Entry.frame ∷ [])) (known b) (frame b) = each b (b .timing) _ (Entry.frame ∷ []) (λ c. refl) in
     let then : Kept (frame b) (λ w. enter (replicate n Entry.frame)) (known (frame b)) (frames n (frame b)) = kept-frames n (frame b) in
     record {
       knows = then .knows ∙ now .knows;
@@ -104,11 +94,11 @@ kept-frames (suc n) b =
     }
 
 -- An accepted call.
-pub kept : (b : EnvelopeBank) (c : Call) → refusal (known b) c ≡ 0 → Kept b (effect (known b) c) (learned (known b) c) (moved b c)
+pub kept : (b : Bank) (c : Call) → refusal (known b) c ≡ 0 → Kept b (effect (known b) c) (learned (known b) c) (moved b c)
 unfolding moved effect refusal step
 kept b (Call.setParams v p) a = one b v _ (enter (Entry.params p ∷ [])) tt refl
-kept b (Call.setAllParams p) a = each b b _ (Entry.params p ∷ []) refl (λ w. refl) (λ c. refl)
-kept b (Call.setTiming t) a = each b (withTiming t b) _ (Entry.timing t ∷ []) refl (λ w. refl) (λ c. refl)
+kept b (Call.setAllParams p) a = each b (b .timing) _ (Entry.params p ∷ []) (λ c. refl)
+kept b (Call.setTiming t) a = each b t _ (Entry.timing t ∷ []) (λ c. refl)
 kept b (Call.trigger v x) a = one b v _ (enter (Entry.trigger x ∷ [])) tt refl
 kept b (Call.release v) a = one b v _ (enter (Entry.release ∷ [])) tt refl
 kept b (Call.reset v) a = one b v _ (enter (Entry.reset ∷ [])) tt refl

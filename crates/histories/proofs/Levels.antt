@@ -12,23 +12,19 @@ use lib.ListN.{length, getD}
 use lib.Ieee.{Float, nan}
 use Rattle.numbers.specs.Constants as Constants
 use Rattle.envelope.specs.Envelopes as Envelopes
-use Rattle.bank.specs.declared.banks.EnvelopeBank.{EnvelopeBank}
-use Rattle.bank.specs.Calls.{Opening, Call, Known, ifAccepted, refusal}
+use Rattle.bank.specs.declared.known.Known.{Known}
+use Rattle.bank.specs.Calls.{Opening, Call, refusal}
 use Rattle.rows.specs.Strides.{strideOf}
-use Rattle.bank.specs.Banks.{size, known, rows, written}
-use Rattle.bank.proofs.Frames.{length-rows, rows-at}
+use Rattle.bank.specs.Banks.{Bank, size, known, rows, written}
+use Rattle.bank.proofs.Accepted.{if-refused}
+use Rattle.bank.proofs.Frames.{frames-size, stride-holds, length-rows, rows-at}
 use Rattle.histories.specs.Demand.{levelOf, framesMore, Reading, history, reading, refusalAfter, voicesOf, bankAfter, Drawn}
-use Rattle.histories.proofs.Rows.{stride-holds, frames-size}
 use Rattle.histories.proofs.Stands.{Stands, stands, later, bank-voices}
 
-module _ (b : EnvelopeBank) (out : List Float) where
+module _ (b : Bank) (out : List Float) where
   refused-out : refusal (known b) (Call.process (length out)) ≢ 0 → written b out ≡ out
   unfolding written
-  refused-out d = go (refusal (known b) (Call.process (length out))) d
-    where
-      go : (n : ℕ) → n ≢ 0 → ifAccepted n (rows (length out / strideOf (size b)) b) out ≡ out
-      go zero d = absurd (d refl)
-      go (suc n) d = refl
+  refused-out d = if-refused (refusal (known b) (Call.process (length out))) _ out d
 
   module _ (a : refusal (known b) (Call.process (length out)) ≡ 0) where
     whole-rows : length out / strideOf (size b) * strideOf (size b) ≡ length out
@@ -83,7 +79,7 @@ drawn-levels o cs out =
       refused = λ d. refused-out b out (λ e. d (ap (λ (k : Known). refusal k (Call.process (length out))) (sym (s .knows)) ∙ e));
     }
   where
-    b : EnvelopeBank
+    b : Bank
     b = bankAfter o cs
 
     r : Reading

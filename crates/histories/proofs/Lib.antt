@@ -1,6 +1,5 @@
 -- The proof of the theorem, each file on those before it.
 pub mod Lists
-pub mod Rows
 pub mod Kept
 pub mod Stands
 pub mod Answers

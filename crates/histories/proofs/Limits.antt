@@ -19,11 +19,13 @@ use Rattle.envelope.specs.Calls as Single
 use Rattle.envelope.specs.Calls.{after, afterAll}
 use Rattle.envelope.proofs.Reachable.{Reachable, reachable, reachable-lead}
 use Rattle.envelope.proofs.Runs.{frames-voice}
-use Rattle.bank.specs.Calls.{Opening, opening, Call, Known, ifAccepted, openingRefusal, opened, refusal}
+use Rattle.memory.specs.Memory.{maxVoices}
+use Rattle.bank.specs.declared.known.Known.{Known}
+use Rattle.bank.specs.Calls.{Opening, opening, Call, ifAccepted, openingRefusal, opened, refusal}
 use Rattle.rows.specs.Strides.{strideOf}
+use Rattle.bank.proofs.Accepted.{named}
 use Rattle.histories.specs.Demand.{Entry, Fresh, run, step, envelopeOf, Effect, enter, copy, only, effect, changed}
 use Rattle.histories.specs.Demand.{Reading, grown, read, firstReading, reading, historyOf, Led}
-use Rattle.histories.proofs.Kept.{named}
 
 -- ---- what is entered
 
@@ -101,7 +103,7 @@ amp-fine = refl
 -- What is opened is within the limits.
 opened-fine : (o : Opening) → Refusals.fresh (opened o .params) (opened o .timing) ≡ 0
 unfolding opened openingRefusal
-opened-fine o = go (ltb 64 (o .voices)) (Refusals.fresh (o .params) (o .timing)) refl
+opened-fine o = go (ltb maxVoices (o .voices)) (Refusals.fresh (o .params) (o .timing)) refl
   where
     none : Opening
     none = opening 0 amp (Clock.new Constants.zero)

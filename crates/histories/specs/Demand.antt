@@ -22,10 +22,11 @@ use Rattle.lane.specs.Voices.{leavesAlone, noteLevel}
 use Rattle.lane.specs.Schedule.{scheduled}
 use Rattle.envelope.specs.declared.envelopes.Envelope.{Envelope}
 use Rattle.envelope.specs.Envelopes as Envelopes
-use Rattle.bank.specs.declared.banks.EnvelopeBank.{EnvelopeBank}
-use Rattle.bank.specs.Calls.{Opening, Call, Known, learned, ifAccepted, openingRefusal, opened, refusal}
+use Rattle.bank.specs.declared.known.Known.{Known}
+use Rattle.bank.specs.Calls.{Opening, Call, knownOf, learned, ifAccepted, openingRefusal, opened, refusal}
 use Rattle.rows.specs.Strides.{strideOf}
 use Rattle.bank.specs.Banks as Banks
+use Rattle.bank.specs.Banks.{Bank}
 use Rattle.bank.specs.Replies as Replies
 use Rattle.bank.specs.Replies.{Reply}
 
@@ -147,7 +148,7 @@ read r c = ifAccepted (refusal (r .known) c) (grown r c) r
 unfoldable pub firstReading : Opening → Reading
 firstReading o =
     let p = opened o in
-    record { known = record { voices = p .voices }; fresh = record { params = p .params; timing = p .timing }; entries = λ w. [] }
+    record { known = knownOf p; fresh = record { params = p .params; timing = p .timing }; entries = λ w. [] }
 
 unfoldable pub reading : Opening → List Call → Reading
 reading o cs = run read (firstReading o) cs
@@ -162,10 +163,10 @@ refusalAfter o cs c = refusal (reading o cs .known) c
 
 -- ---- the bank after a list, by the definitions that its functions' statements cite
 
-unfoldable pub bankAfter : Opening → List Call → EnvelopeBank
+unfoldable pub bankAfter : Opening → List Call → Bank
 bankAfter o cs = run (λ b c. Banks.answer b c .bank) (Banks.new o .bank) cs
 
-unfoldable pub repliesFrom : EnvelopeBank → List Call → List Reply
+unfoldable pub repliesFrom : Bank → List Call → List Reply
 repliesFrom b [] = []
 repliesFrom b (c ∷ cs) = Replies.reply b c ∷ repliesFrom (Banks.answer b c .bank) cs
 

@@ -1,6 +1,6 @@
-use mathlib.Core.Path.{_≡_, _∙_}
+use mathlib.Core.Path.{sym, _∙_}
 use native.Mathlib.Omega.{arith}
-use Rattle.checking.proofs.Judging.{own, judged-own, found-full, found-room}
+use Rattle.checking.proofs.Judging.{judged-own, found-full, found-room}
 use borrow.Author.Needs.{needs}
 use Rattle.checking.proofs.judged.Statement.{statement}
 use Rattle.checking.proofs.judged.Tie as tie
@@ -13,18 +13,18 @@ refused-requires c κs = search needs
 
 returns : tie.Need-returns
 returns c =
-    let a = c .before .before .before .args in
+    let a = c .before .before .before .before .args in
     let o = c .before .before .own-refusal in
     c .refused .ensures ∙ judged-own (a .room) (a .c) (a .event) (a .next) (o .result) (o .ensures) (c .before .if1 .taken)
 
-voices-after-requires : tie.Need-voices-after-requires
-voices-after-requires c κs = search needs
+known-after-requires : tie.Need-known-after-requires
+known-after-requires c κs = search needs
 
 frames-of-requires : tie.Need-frames-of-requires
 frames-of-requires c κs = search needs
 
 add-frames : tie.Need-add-frames
-add-frames c = record { fits = omega (arith, c .before .frames-of .ensures .1, c .before .before .before .before .before .pre) }
+add-frames c = record { fits = omega (arith, c .before .frames-of .ensures .1, c .before .before .before .before .before .before .pre) }
 
 stride-of-requires : tie.Need-stride-of-requires
 stride-of-requires c κs = search needs
@@ -37,25 +37,26 @@ refused-requires-2 c κs = search needs
 
 returns-2 : tie.Need-returns-2
 returns-2 c =
-    let c₀ = c .before .before in
-    let c₂ = c₀ .before .before in
-    let c₃ = c₂ .before in
-    let c₅ = c₃ .before .before in
-    let c₆ = c₅ .before in
-    let a = c₆ .args in
-    let z : own (a .c) (a .event) ≡ 0 = omega (arith, c₅ .own-refusal .ensures, c₃ .before .if1 .left) in
-    c .refused2 .ensures ∙ found-full (a .room) (a .c) (a .event) (a .next) (c₃ .voices-after .result) (c₂ .frames-of .result) (c₀ .stride-of .result) (c₆ .pre .0) z (c₃ .voices-after .ensures) (c₂ .frames-of .ensures .0) (c₀ .stride-of .ensures) (c .before .if2 .taken)
+    let s = c .before .before in
+    let f = s .before .before in
+    let k = f .before in
+    let w = k .before .before in
+    let b = w .before .before in
+    let a = b .args in
+    c .refused2 .ensures
+    ∙ found-full (a .room) (a .c) (a .event) (a .next) (k .known-after .result) (f .frames-of .result) (s .stride-of .result) (b .pre .0)
+    (sym (w .own-refusal .ensures) ∙ k .before .if1 .left) (k .known-after .ensures) (f .frames-of .ensures .0) (s .stride-of .ensures) (c .before .if2 .taken)
 
 returns-3 : tie.Need-returns-3
 returns-3 c =
-    let c₀ = c .before in
-    let c₂ = c₀ .before .before in
-    let c₃ = c₂ .before in
-    let c₅ = c₃ .before .before in
-    let c₆ = c₅ .before in
-    let a = c₆ .args in
-    let z : own (a .c) (a .event) ≡ 0 = omega (arith, c₅ .own-refusal .ensures, c₃ .before .if1 .left) in
-    found-room (a .room) (a .c) (a .event) (a .next) (c₃ .voices-after .result) (c₂ .frames-of .result) (c₀ .stride-of .result) (c₆ .pre .0) z (c₃ .voices-after .ensures) (c₂ .frames-of .ensures .0) (c₀ .stride-of .ensures) (omega (arith, c .if2 .left))
+    let s = c .before in
+    let f = s .before .before in
+    let k = f .before in
+    let w = k .before .before in
+    let b = w .before .before in
+    let a = b .args in
+    found-room (a .room) (a .c) (a .event) (a .next) (k .known-after .result) (f .frames-of .result) (s .stride-of .result) (b .pre .0)
+    (sym (w .own-refusal .ensures) ∙ k .before .if1 .left) (k .known-after .ensures) (f .frames-of .ensures .0) (s .stride-of .ensures) (omega (arith, c .if2 .left))
 
 pub judged-spec : {M : Type 1} → statement M
 judged-spec =
@@ -64,7 +65,7 @@ judged-spec =
     own-refusal-requires
     refused-requires
     returns
-    voices-after-requires
+    known-after-requires
     frames-of-requires
     add-frames
     stride-of-requires

@@ -1,4 +1,4 @@
-use mathlib.Core.Path.{_≡_}
+use mathlib.Core.Path.{_≡_, ap, _∙_}
 use mathlib.Core.Bool.{true, false}
 use mathlib.Core.List.{List}
 use mathlib.Core.Logic.{⊎-elim}
@@ -8,12 +8,13 @@ use borrow.Author.Needs.{needs}
 use borrow.Author.Tests.{lt-ltb, le-ltb, eq-eqb, ne-eqb}
 use lib.Dec.{ltb, eqb}
 use lib.ListN.{length}
-use Rattle.events.specs.Format.{byte, number, bodyLength, placed, read}
+use Rattle.numbers.specs.Bytes.{number}
+use Rattle.events.specs.Format.{byte, tagOf, bodyLength, placed, read}
 use Rattle.events.proofs.Numbers.{two-bytes}
 use Rattle.events.proofs.read.Statement.{statement}
 use Rattle.events.proofs.read.Tie as tie
 
--- The list, the place in it, its tag, and its body's length as it was read.
+-- The list, the place in it, its tag's number, and its body's length as it was read.
 abbrev bytes : tie.After-wide2 → List ℕ
 bytes c = c .before .before .before .before .before .before .before .before .args .list .now
 
@@ -36,13 +37,18 @@ uncut c =
     let w = c .before in
     let n = length (bytes w) in (le-ltb n (place w + 3) (omega arith), le-ltb n (place w + 3 + len w) (omega arith))
 
+-- The length that the tag wants.
+wanted : (c : tie.After-body-length) → c .body-length .result ≡ bodyLength (tagOf (tagged (c .before .before .before)))
+wanted c = c .body-length .ensures ∙ ap bodyLength (c .before .tag-of .ensures)
+
 -- The tag is known, and the length is the tag's.
 sized : (c : tie.Else5)
-    → let w = c .before .before .before .before in
-    (eqb (bodyLength (tagged w)) 0 ≡ false) × (eqb (len w) (bodyLength (tagged w)) ≡ true)
+    → let w = c .before .before .before .before .before in
+    let n = bodyLength (tagOf (tagged w)) in (eqb n 0 ≡ false) × (eqb (len w) n ≡ true)
 sized c =
-    let w = c .before .before .before .before in
-    let n = bodyLength (tagged w) in (ne-eqb n 0 (λ z. omega arith), eq-eqb (len w) n (omega arith))
+    let w = c .before .before .before .before .before in
+    let n = bodyLength (tagOf (tagged w)) in
+    let e = wanted (c .before .before) in (ne-eqb n 0 (λ z. omega arith), eq-eqb (len w) n (omega arith))
 
 returns : tie.Need-returns
 unfolding read
@@ -55,8 +61,8 @@ returns-2 : tie.Need-returns-2
 unfolding read
 returns-2 c = let a = c .before .before .before .args in rw (lt-ltb (length (a .list .now)) (a .at + 3) (omega arith))
 
-shared-slice-read-tag : tie.Need-shared-slice-read-tag
-shared-slice-read-tag c = search needs
+shared-slice-read-number : tie.Need-shared-slice-read-number
+shared-slice-read-number c = search needs
 
 add-wide : tie.Need-add-wide
 add-wide c = search needs
@@ -95,30 +101,35 @@ returns-3 c =
     let n = length (bytes w) in
     rw (← len-is w, le-ltb n (place w + 3) (omega arith), lt-ltb n (place w + 3 + len w) (omega arith))
 
+tag-of-requires : tie.Need-tag-of-requires
+tag-of-requires c κs = search needs
+
 body-length-requires : tie.Need-body-length-requires
 body-length-requires c κs = search needs
 
 returns-4 : tie.Need-returns-4
 unfolding read
 returns-4 c =
-    let w = c .before .before .before in
-    let u = uncut (c .before .before) in
-    rw (← len-is w, u .0, u .1, eq-eqb (bodyLength (tagged w)) 0 (omega arith))
+    let w = c .before .before .before .before in
+    let u = uncut (c .before .before .before) in
+    let e = wanted (c .before) in
+    rw (← len-is w, u .0, u .1, eq-eqb (bodyLength (tagOf (tagged w))) 0 (omega arith))
 
 returns-5 : tie.Need-returns-5
 unfolding read
 returns-5 c =
-    let w = c .before .before .before .before in
-    let u = uncut (c .before .before .before) in
-    let n = bodyLength (tagged w) in
+    let w = c .before .before .before .before .before in
+    let u = uncut (c .before .before .before .before) in
+    let n = bodyLength (tagOf (tagged w)) in
+    let e = wanted (c .before .before) in
     rw (← len-is w, u .0, u .1, ne-eqb n 0 (λ z. omega arith), ne-eqb (len w) n (λ z. omega arith))
 
 returns-6 : tie.Need-returns-6
 unfolding read
 returns-6 c =
     let d = c .before .before in
-    let w = d .before .before .before .before in
-    let u = uncut (d .before .before .before) in
+    let w = d .before .before .before .before .before in
+    let u = uncut (d .before .before .before .before) in
     let s = sized d in
     rw (← len-is w, u .0, u .1, s .0, s .1, eq-eqb (place w) 0 (omega arith), ne-eqb (tagged w) 1 (λ z. omega arith))
 
@@ -126,8 +137,8 @@ returns-7 : tie.Need-returns-7
 unfolding read
 returns-7 c =
     let d = c .before .before in
-    let w = d .before .before .before .before in
-    let u = uncut (d .before .before .before) in
+    let w = d .before .before .before .before .before in
+    let u = uncut (d .before .before .before .before) in
     let s = sized d in
     rw (← len-is w, u .0, u .1, s .0, s .1, ne-eqb (place w) 0 (λ z. omega arith), eq-eqb (tagged w) 1 (omega arith))
 
@@ -147,15 +158,15 @@ returns-8 : tie.Need-returns-8
 unfolding read
 returns-8 c =
     let d = c .before .before in
-    let w = d .before .before .before .before in
-    let u = uncut (d .before .before .before) in
+    let w = d .before .before .before .before .before in
+    let u = uncut (d .before .before .before .before) in
     let s = sized d in
     let p : placed (tagged w) (place w) ≡ true =
     ⊎-elim
     (λ p. rw (eq-eqb (place w) 0 (p .0 .taken), eq-eqb (tagged w) 1 (p .1 .left)))
     (λ p. rw (ne-eqb (place w) 0 (p .0 .left), ne-eqb (tagged w) 1 (p .1 .left)))
     (c .before .if6 .came) in
-    rw (← len-is w, u .0, u .1, s .0, s .1, p) (c .meaning .ensures)
+    rw (← len-is w, u .0, u .1, s .0, s .1, p, ← d .before .before .before .tag-of .ensures) (c .meaning .ensures)
 
 pub read-spec : {M : Type 1} → statement M
 read-spec =
@@ -164,7 +175,7 @@ read-spec =
     returns
     sub-if2
     returns-2
-    shared-slice-read-tag
+    shared-slice-read-number
     add-wide
     shared-slice-read-wide
     wide-requires
@@ -176,6 +187,7 @@ read-spec =
     sub-if3
     sub-if3-2
     returns-3
+    tag-of-requires
     body-length-requires
     returns-4
     returns-5
