@@ -59,7 +59,12 @@ fn show(list: &[u8], out: &mut [u8]) {
         return;
     }
     player::worfelli_play(list, out);
-    print_frames(out, c.frames as usize, c.voices, bank::stride_of(c.voices));
+    print_frames(
+        out,
+        c.frames as usize,
+        c.known.voices,
+        bank::stride_of(c.known.voices),
+    );
 }
 
 fn main() {

@@ -1,210 +1,178 @@
--- What an accepted event makes of the bank, and by the turn that the code takes for it.
-use mathlib.Core.Path.{_≡_, refl, sym, ap}
-use mathlib.Core.Bool.{Bool, true, false, cond}
-use mathlib.Core.Logic.{_⊎_, inl, inr}
-use mathlib.Core.List.{[]}
-use Prim.Native.Nat.{ℕ, zero, suc, _+_, _<_, _≤_, min}
+-- What an event does: the levels that it hands out are the rows of its frames, and the check knows of the bank after it what the bank says itself.
+use mathlib.Core.Path.{_≡_, refl, sym, ap, _∙_, subst}
+use mathlib.Core.Bool.{Bool, true, false}
+use mathlib.Core.List.{List, []}
+use Prim.Native.Nat.{ℕ, zero, suc, _+_, _*_, _/_, _≤_}
 use native.Mathlib.Omega.{arith}
-use Rattle.lane.specs.Voices as Voices
-use Rattle.bank.specs.declared.banks.EnvelopeBank.{EnvelopeBank}
-use Rattle.bank.specs.Calls as Calls
-use Rattle.bank.specs.Calls.{Opening, opening, Call, ifAccepted, openingRefusal, opened, refusal}
-use Rattle.bank.specs.Banks.{voice, size, known, arrange, put, onAll, withTiming, frames, rows, idle, new, moved, answer}
-use Rattle.bank.specs.Replies.{Reply, reply}
-use Rattle.bank.proofs.Lanes.{Sized, arrange-sized, idle-sized}
-use Rattle.histories.proofs.Kept.{named}
-use Rattle.histories.proofs.Blocks.{whole, block-frames}
+use native.Mathlib.Nat.{add-mul, zero-mul}
+use borrow.Author.Tests.{eqb-true, le-ltb}
+use lib.Dec.{eqb}
+use lib.Ieee.{Float}
+use lib.ListN.{length, length-replicate}
+use Rattle.lane.specs.Planning as Planning
+use Rattle.memory.specs.Memory.{Arrays}
+use Rattle.rows.specs.Strides.{strideOf}
+use Rattle.bank.specs.declared.known.Known.{Known}
+use Rattle.bank.specs.Calls.{Call, ifAccepted, openingRefusal, opened, refusal}
+use Rattle.bank.specs.Banks.{Bank, bankOf, size, known, envelope, frames, rows, new, moved, answer, bytes, bytesRefusal, afterBytes, writtenBytes}
+use Rattle.bank.specs.Replies.{Reply, answered, reply}
+use Rattle.bank.proofs.Accepted.{whole, block-frames}
+use Rattle.bank.proofs.Bytes.{length-bytes}
+use Rattle.bank.proofs.Frames.{length-rows}
+use Rattle.bank.proofs.Held.{size-of}
+use Rattle.histories.proofs.Kept.{kept}
 use Rattle.events.specs.declared.Event.{Event}
+use Rattle.events.specs.declared.Reading.{Reading}
+use Rattle.events.specs.Format as Format
 use Rattle.events.proofs.Records as Records
-use Rattle.checking.specs.Deeds.{opens, deed, ownRefusal, knownAfter, framesOf}
-use Rattle.checking.proofs.Judging.{if-accepted}
-use Rattle.player.specs.declared.turns.Turn.{Turn}
-use Rattle.player.specs.Parts.{one, all, turnOf}
-use Rattle.player.specs.Playing.{after, levels, handed}
-
--- ---- events
-
-abbrev pub draws : Event → Bool
-draws (Event.Open n t p) = false
-draws (Event.SetParams v p) = false
-draws (Event.SetAllParams p) = false
-draws (Event.SetTiming t) = false
-draws (Event.Trigger v x) = false
-draws (Event.Release v) = false
-draws (Event.Reset v) = false
-draws (Event.Join v from) = false
-draws (Event.Frames n) = true
-
--- The bank after an event that draws nothing.
-abbrev pub turned : EnvelopeBank → Event → EnvelopeBank
-turned b (Event.Open n t p) = new (opening n p t) .bank
-turned b (Event.SetParams v p) = put v (Voices.setParams (b .timing) p (voice b v)) b
-turned b (Event.SetAllParams p) = onAll (Voices.setParams (b .timing) p) b
-turned b (Event.SetTiming t) = onAll (Voices.replan t) (withTiming t b)
-turned b (Event.Trigger v x) = put v (Voices.trigger (b .timing) x (voice b v)) b
-turned b (Event.Release v) = put v (Voices.release (b .timing) (voice b v)) b
-turned b (Event.Reset v) = put v (Voices.reset (b .timing) (voice b v)) b
-turned b (Event.Join v from) = put v (voice b from) b
-turned b (Event.Frames n) = b
-
--- ---- accepted events
-
--- The bank after an accepted call.
-accepted : (b : EnvelopeBank) (c : Call) → refusal (known b) c ≡ 0 → answer b c .bank ≡ moved b c
-unfolding answer
-accepted b c z = if-accepted (refusal (known b) c) (moved b c) b z
-
--- A call that draws nothing replies no levels.
-silent : (n m : ℕ) → levels (ifAccepted n Reply.done (Reply.refused m)) ≡ []
-unfolding levels
-silent zero m = refl
-silent (suc n) m = refl
+use Rattle.events.proofs.Records.{read-first}
+use Rattle.checking.specs.declared.Checked.{Checked}
+use Rattle.checking.specs.Deeds.{Deed, opens, calls, deed, ownRefusal, knownAfter, framesOf}
+use Rattle.checking.specs.Checks.{passed}
+use Rattle.checking.proofs.Passing.{Accepted}
+use Rattle.player.specs.Playing.{after, levels, handed, put}
 
 pub differ : true ≡ false → ⊥
-differ h =
-    let e : _≡_ {A = ℕ} 1 0 = ap (λ (t : Bool). cond {A = ℕ} t 1 0) h in
-    absurd (omega (arith, e))
+differ e = subst (λ (t : Bool). T t) e tt
+  where
+    T : Bool → Type 0
+    T true = Unit {0}
+    T false = ⊥
 
--- The lanes that a turn reads and writes are there, and a span of more than one voice reads what it writes.
-pub record InTurn (t : Turn) : Type 0 where
-  pub few : t .last ≤ 64
-  pub source : t .first < t .last → t .from < 64
-  pub straight : (t .from ≡ t .first) ⊎ (t .last ≤ t .first + 1)
+-- ---- levels
 
-every : (n : ℕ) → n ≤ 64 → InTurn (all n)
-every n h = record { few = h; source = λ p. omega arith; straight = inl refl }
+none-handed : (b : Bank) (c : Call) → answered (known b) (envelope b) (λ n. rows n b) c ≡ Reply.done → levels (reply b c) ≡ []
+unfolding levels reply
+none-handed b c e = go (refusal (known b) c)
+  where
+    go : (n : ℕ) → levels (ifAccepted n (answered (known b) (envelope b) (λ n. rows n b) c) (Reply.refused (refusal (known b) c))) ≡ []
+    go zero = ap levels e
+    go (suc n) = refl
 
-single : (v from : ℕ) → v < 64 → from < 64 → InTurn (one v from)
-single v from h k = record { few = omega arith; source = λ p. k; straight = inr (omega arith) }
+rows-handed : (b : Bank) (n : ℕ) → levels (reply b (Call.process (n * strideOf (size b)))) ≡ rows n b
+unfolding reply levels
+rows-handed b n = rw (whole (known b) n .0, whole (known b) n .1)
 
-module _ (b : EnvelopeBank) where
-  abbrev pub own : Event → ℕ
-  own e = ownRefusal (known b) (deed (known b) e)
+pub handed-rows : (b : Bank) (e : Event) → handed b (deed (known b) e) ≡ rows (framesOf e) b
+unfolding handed deed framesOf
+handed-rows b (Event.Open n t p) = refl
+handed-rows b (Event.SetParams v p) = none-handed b (Call.setParams v p) refl
+handed-rows b (Event.SetAllParams p) = none-handed b (Call.setAllParams p) refl
+handed-rows b (Event.SetTiming t) = none-handed b (Call.setTiming t) refl
+handed-rows b (Event.Trigger v x) = none-handed b (Call.trigger v x) refl
+handed-rows b (Event.Release v) = none-handed b (Call.release v) refl
+handed-rows b (Event.Reset v) = none-handed b (Call.reset v) refl
+handed-rows b (Event.Join v from) = none-handed b (Call.join v from) refl
+handed-rows b (Event.Frames n) = rows-handed b n
 
-  below : (v later : ℕ) → Calls.named (known b) v later ≡ 0 → (v < 64) × (later ≡ 0)
-  below v later z =
-      let h = named (known b) v later z in
-      (omega (arith, h .0), h .1)
+-- ---- what is known
 
-  pub in-lanes : (e : Event) → own e ≡ 0 → InTurn (turnOf e (size b))
-  unfolding turnOf deed ownRefusal refusal
-  in-lanes (Event.Open n t p) z = every 0 (omega arith)
-  in-lanes (Event.SetParams v p) z = single v v (below v _ z .0) (below v _ z .0)
-  in-lanes (Event.SetAllParams p) z = every (size b) (omega arith)
-  in-lanes (Event.SetTiming t) z = every (size b) (omega arith)
-  in-lanes (Event.Trigger v x) z = single v v (below v _ z .0) (below v _ z .0)
-  in-lanes (Event.Release v) z = single v v (below v _ z .0) (below v _ z .0)
-  in-lanes (Event.Reset v) z = single v v (below v _ z .0) (below v _ z .0)
-  in-lanes (Event.Join v from) z = single v from (below v _ z .0) (below from _ (below v _ z .1) .0)
-  in-lanes (Event.Frames n) z = record { few = omega arith; source = λ h. absurd (omega arith); straight = inl refl }
+abbrev pub isOpen : Deed → Bool
+isOpen (opens o) = true
+isOpen (calls c) = false
 
-  -- What the player's definition says of it.
-  pub turned-after : (e : Event) → own e ≡ 0 → draws e ≡ false → after b (deed (known b) e) ≡ turned b e
-  unfolding deed ownRefusal after moved
-  turned-after (Event.Open n t p) z q = refl
-  turned-after (Event.SetParams v p) z q = accepted b (Call.setParams v p) z
-  turned-after (Event.SetAllParams p) z q = accepted b (Call.setAllParams p) z
-  turned-after (Event.SetTiming t) z q = accepted b (Call.setTiming t) z
-  turned-after (Event.Trigger v x) z q = accepted b (Call.trigger v x) z
-  turned-after (Event.Release v) z q = accepted b (Call.release v) z
-  turned-after (Event.Reset v) z q = accepted b (Call.reset v) z
-  turned-after (Event.Join v from) z q = accepted b (Call.join v from) z
-  turned-after (Event.Frames n) z q = absurd (differ q)
+pub open-deed : (k : Known) (e : Event) → isOpen (deed k e) ≡ Records.opens e
+unfolding deed
+open-deed k (Event.Open n t p) = refl
+open-deed k (Event.SetParams v p) = refl
+open-deed k (Event.SetAllParams p) = refl
+open-deed k (Event.SetTiming t) = refl
+open-deed k (Event.Trigger v x) = refl
+open-deed k (Event.Release v) = refl
+open-deed k (Event.Reset v) = refl
+open-deed k (Event.Join v from) = refl
+open-deed k (Event.Frames n) = refl
 
-  pub quiet : (e : Event) → draws e ≡ false → handed b (deed (known b) e) ≡ []
-  unfolding deed handed reply
-  quiet (Event.Open n t p) q = refl
-  quiet (Event.SetParams v p) q = silent (refusal (known b) (Call.setParams v p)) _
-  quiet (Event.SetAllParams p) q = silent (refusal (known b) (Call.setAllParams p)) _
-  quiet (Event.SetTiming t) q = silent (refusal (known b) (Call.setTiming t)) _
-  quiet (Event.Trigger v x) q = silent (refusal (known b) (Call.trigger v x)) _
-  quiet (Event.Release v) q = silent (refusal (known b) (Call.release v)) _
-  quiet (Event.Reset v) q = silent (refusal (known b) (Call.reset v)) _
-  quiet (Event.Join v from) q = silent (refusal (known b) (Call.join v from)) _
-  quiet (Event.Frames n) q = absurd (differ q)
+open-quiet : (e : Event) → Records.opens e ≡ true → framesOf e ≡ 0
+unfolding framesOf
+open-quiet (Event.Open n t p) q = refl
+open-quiet (Event.SetParams v p) q = refl
+open-quiet (Event.SetAllParams p) q = refl
+open-quiet (Event.SetTiming t) q = refl
+open-quiet (Event.Trigger v x) q = refl
+open-quiet (Event.Release v) q = refl
+open-quiet (Event.Reset v) q = refl
+open-quiet (Event.Join v from) q = refl
+open-quiet (Event.Frames n) q = absurd (differ (sym q))
 
-  pub asks-none : (e : Event) → draws e ≡ false → framesOf e ≡ 0
-  unfolding framesOf
-  asks-none (Event.Open n t p) q = refl
-  asks-none (Event.SetParams v p) q = refl
-  asks-none (Event.SetAllParams p) q = refl
-  asks-none (Event.SetTiming t) q = refl
-  asks-none (Event.Trigger v x) q = refl
-  asks-none (Event.Release v) q = refl
-  asks-none (Event.Reset v) q = refl
-  asks-none (Event.Join v from) q = refl
-  asks-none (Event.Frames n) q = absurd (differ q)
+same-count : (k : Known) (d : Deed) → isOpen d ≡ false → knownAfter k d .voices ≡ k .voices
+unfolding knownAfter
+same-count k (opens o) q = absurd (differ q)
+same-count k (calls c) q = refl
 
-  -- ---- its voices, and its arrays
+pub known-after : (b : Bank) (d : Deed) → ownRefusal (known b) d ≡ 0 → known (after b d) ≡ knownAfter (known b) d
+unfolding ownRefusal knownAfter after new opened answer
+known-after b (opens o) z = rw z (ap {B = Known} (λ (n : ℕ). record { voices = n }) (length-replicate (o .voices) (Planning.new (o .params))))
+known-after b (calls c) z = rw z (kept b c z .knows)
 
-  twice : min (b .voices) 64 ≡ min (min (b .voices) 64) 64
-  twice = omega arith
+-- ---- an accepted record
 
-  pub opened-voices : (o : Opening) → openingRefusal o ≡ 0 → size (new o .bank) ≡ min (o .voices) 64
-  unfolding new opened idle
-  opened-voices o z = ap (λ (x : Opening). min (x .voices) 64) (if-accepted (openingRefusal o) o _ z)
+-- Where the check is, when it has passed the records up to byte `at`.
+abbrev pub far : ℕ → Bank → ℕ → Checked
+far at b asked = record { refusal = 0; at = at; known = known b; frames = asked }
 
-  pub turned-voices : (e : Event) → own e ≡ 0 → draws e ≡ false → size (turned b e) ≡ min (knownAfter (known b) (deed (known b) e) .voices) 64
-  unfolding deed ownRefusal knownAfter put onAll arrange
-  turned-voices (Event.Open n t p) z q = opened-voices (opening n p t) z
-  turned-voices (Event.SetParams v p) z q = twice
-  turned-voices (Event.SetAllParams p) z q = twice
-  turned-voices (Event.SetTiming t) z q = twice
-  turned-voices (Event.Trigger v x) z q = twice
-  turned-voices (Event.Release v) z q = twice
-  turned-voices (Event.Reset v) z q = twice
-  turned-voices (Event.Join v from) z q = twice
-  turned-voices (Event.Frames n) z q = twice
+module _ (room : ℕ) (b : Bank) (l : List ℕ) (at asked : ℕ) (e : Event) (next : ℕ) (is : Format.read l at ≡ Reading.Record e next)
+    (first : at ≡ 0 → asked ≡ 0) (A : Accepted room (far at b asked) e next) where
+  abbrev b′ : Bank
+  b′ = after b (deed (known b) e)
 
-  pub turned-sized : Sized b → (e : Event) → own e ≡ 0 → Sized (turned b e)
-  unfolding deed ownRefusal put onAll new
-  turned-sized S (Event.Open n t p) z = idle-sized _ _ _
-  turned-sized S (Event.SetParams v p) z = arrange-sized _ b
-  turned-sized S (Event.SetAllParams p) z = arrange-sized _ b
-  turned-sized S (Event.SetTiming t) z = arrange-sized _ (withTiming t b)
-  turned-sized S (Event.Trigger v x) z = arrange-sized _ b
-  turned-sized S (Event.Release v) z = arrange-sized _ b
-  turned-sized S (Event.Reset v) z = arrange-sized _ b
-  turned-sized S (Event.Join v from) z = arrange-sized _ b
-  turned-sized S (Event.Frames n) z = S
+  -- The check is where the bank is.
+  pub passed-far : passed (far at b asked) e next ≡ far next b′ (asked + framesOf e)
+  passed-far =
+      ap {B = Checked} (λ (k : Known). record { refusal = 0; at = next; known = k; frames = asked + framesOf e }) (sym (known-after b (deed (known b) e) (A .own)))
 
-  -- Only an open changes their number.
-  pub same-voices : (e : Event) → Records.opens e ≡ false → knownAfter (known b) (deed (known b) e) .voices ≡ size b
-  unfolding deed knownAfter
-  same-voices (Event.Open n t p) q = absurd (differ q)
-  same-voices (Event.SetParams v p) q = refl
-  same-voices (Event.SetAllParams p) q = refl
-  same-voices (Event.SetTiming t) q = refl
-  same-voices (Event.Trigger v x) q = refl
-  same-voices (Event.Release v) q = refl
-  same-voices (Event.Reset v) q = refl
-  same-voices (Event.Join v from) q = refl
-  same-voices (Event.Frames n) q = refl
+  -- The levels so far, counted by the bank before the record and after it: the one that opens it is the first.
+  pub levels-more : (asked + framesOf e) * strideOf (size b′) ≡ asked * strideOf (size b) + framesOf e * strideOf (size b)
+  levels-more = go (eqb at 0) refl
+    where
+      go : (t : Bool) → eqb at 0 ≡ t → (asked + framesOf e) * strideOf (size b′) ≡ asked * strideOf (size b) + framesOf e * strideOf (size b)
+      go true h =
+          let a = first (eqb-true at 0 h) in
+          let f = open-quiet e (read-first l at e next is ∙ h) in
+          let z : asked + framesOf e ≡ 0 = omega (arith, a, f) in
+          ap (λ (n : ℕ). n * strideOf (size b′)) z ∙ zero-mul (strideOf (size b′))
+          ∙ sym (omega (arith, ap (λ (n : ℕ). n * strideOf (size b)) a, ap (λ (n : ℕ). n * strideOf (size b)) f, zero-mul (strideOf (size b))))
+      go false h =
+          let n : size b′ ≡ size b =
+          ap (λ (k : Known). k .voices) (known-after b (deed (known b) e) (A .own))
+          ∙ same-count (known b) (deed (known b) e) (open-deed (known b) e ∙ read-first l at e next is ∙ h)
+          in
+          ap (λ (v : ℕ). (asked + framesOf e) * strideOf v) n ∙ add-mul asked (framesOf e) (strideOf (size b))
 
-  -- ---- frames
+-- ---- what is applied
 
-  -- They are handed out as rows, and the bank is as many frames on.
-  frames-handed : (n : ℕ) → handed b (deed (known b) (Event.Frames n)) ≡ rows n b
-  unfolding deed handed reply levels
-  frames-handed n = rw (whole (known b) n .0, whole (known b) n .1)
+-- The event e makes b′ of the bank, and puts r bytes of levels into the output.
+abbrev pub Applied : Bank → Event → List ℕ → Bank → List ℕ → ℕ → Type 0
+Applied b e out b′ out′ r =
+    let bs = bytes (handed b (deed (known b) e)) in
+    (b′ ≡ after b (deed (known b) e)) × ((out′ ≡ put bs out) × (r ≡ length bs))
 
-  frames-after : (n : ℕ) → after b (deed (known b) (Event.Frames n)) ≡ frames n b
-  unfolding deed after
-  frames-after n = block-frames b (size b) n refl
+-- One that asks for no frames writes nothing.
+pub applied-quiet : (b : Bank) (e′ e : Event) (out : List ℕ) (b′ : Bank) → e′ ≡ e → framesOf e ≡ 0 → b′ ≡ after b (deed (known b) e) → Applied b e′ out b′ out 0
+applied-quiet b e′ e out b′ is z q =
+    let n : handed b (deed (known b) e) ≡ [] = handed-rows b e ∙ ap (λ (n : ℕ). rows n b) z in
+    subst (λ (e : Event). Applied b e out b′ out 0) (sym is)
+    (q, (ap (λ (xs : List Float). put (bytes xs) out) (sym n), ap (λ (xs : List Float). length (bytes xs)) (sym n)))
 
-  pub record Drawn (e : Event) : Type 0 where
-    pub rows : handed b (deed (known b) e) ≡ rows (framesOf e) b
-    pub bank : after b (deed (known b) e) ≡ frames (framesOf e) b
-    pub voices : knownAfter (known b) (deed (known b) e) .voices ≡ size b
+-- n frames, for which there is room.
+module _ (b : Bank) (n : ℕ) (out : List ℕ) (b′ : Bank) (out′ : List ℕ) (r : ℕ) where
+  abbrev pub Frames : Type 0
+  Frames = (b′ ≡ frames n b) × ((out′ ≡ put (bytes (rows n b)) out) × (r ≡ length (bytes (rows n b))))
 
-  pub drawn : (e : Event) → draws e ≡ true → Drawn e
-  unfolding framesOf knownAfter deed
-  drawn (Event.Open n t p) q = absurd (differ (sym q))
-  drawn (Event.SetParams v p) q = absurd (differ (sym q))
-  drawn (Event.SetAllParams p) q = absurd (differ (sym q))
-  drawn (Event.SetTiming t) q = absurd (differ (sym q))
-  drawn (Event.Trigger v x) q = absurd (differ (sym q))
-  drawn (Event.Release v) q = absurd (differ (sym q))
-  drawn (Event.Reset v) q = absurd (differ (sym q))
-  drawn (Event.Join v from) q = absurd (differ (sym q))
-  drawn (Event.Frames n) q = record { rows = frames-handed n; bank = frames-after n; voices = refl }
+  pub frames-drawn : n * strideOf (size b) ≤ length out / 4 → b′ ≡ afterBytes b n (length out) → out′ ≡ writtenBytes b n out → r ≡ n * (4 * strideOf (size b)) → Frames
+  unfolding bytesRefusal afterBytes writtenBytes
+  frames-drawn h p q s =
+      let e = le-ltb (length out / 4) (n * strideOf (size b)) h in
+      let k : n * (4 * strideOf (size b)) ≡ 4 * (n * strideOf (size b)) = omega arith in
+      (p ∙ rw e, (q ∙ rw e, s ∙ k ∙ sym (length-bytes (rows n b) ∙ ap (λ (m : ℕ). 4 * m) (length-rows n b))))
+
+  pub applied-frames : (e : Event) → e ≡ Event.Frames n → Frames → Applied b e out b′ out′ r
+  unfolding after deed framesOf
+  applied-frames e is (p, (q, s)) =
+      let x : rows n b ≡ handed b (deed (known b) (Event.Frames n)) = sym (handed-rows b (Event.Frames n)) in
+      subst (λ (e : Event). Applied b e out b′ out′ r) (sym is)
+      (p ∙ sym (block-frames b (size b) n refl), (q ∙ ap (λ (xs : List Float). put (bytes xs) out) x, s ∙ ap (λ (xs : List Float). length (bytes xs)) x))
+
+-- A row has at most 64 lanes.
+pub stride-small : (m : Arrays) → strideOf (size (bankOf m)) ≤ 64
+stride-small m = omega (arith, size-of m)

@@ -1,8 +1,6 @@
--- Laws of playing.
-pub mod Bytes
+-- Laws of the player: what an event does, record after record, and what the host gets.
 pub mod Signs
 pub mod Doing
-pub mod Pending
 pub mod Progress
-pub mod Takes
 pub mod Written
+pub mod Takes

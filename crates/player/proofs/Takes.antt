@@ -2,14 +2,14 @@
 use mathlib.Core.Path.{_≡_, refl, sym, ap, _∙_, subst}
 use mathlib.Core.Bool.{Bool, true, false}
 use mathlib.Core.List.{List, [], _∷_, _++_}
-use Prim.Native.Nat.{ℕ, zero, suc, _-_, _/_, _<_, _≤_, min}
+use Prim.Native.Nat.{ℕ, zero, suc, _-_, _/_, _<_}
 use native.Mathlib.Omega.{arith}
 use borrow.Author.Tests.{ne-eqb}
 use lib.Ieee.{Float}
 use lib.ListN.{length}
-use Rattle.bank.specs.declared.banks.EnvelopeBank.{EnvelopeBank}
-use Rattle.bank.specs.Calls.{opening, Call, Known, learned, ifAccepted, refusal}
-use Rattle.bank.specs.Banks.{size, known, new, moved, answer}
+use Rattle.bank.specs.declared.known.Known.{Known}
+use Rattle.bank.specs.Calls.{opening, Call, knownOf, learned, ifAccepted, refusal}
+use Rattle.bank.specs.Banks.{Bank, known, new, moved, answer}
 use Rattle.bank.specs.Replies.{reply}
 use Rattle.histories.specs.Demand.{firstReading, repliesFrom}
 use Rattle.histories.proofs.Kept.{kept}
@@ -21,11 +21,11 @@ use Rattle.events.specs.Format as Format
 use Rattle.events.proofs.Records as Records
 use Rattle.events.proofs.Records.{read-first, read-next, read-refused}
 use Rattle.checking.specs.declared.Checked.{Checked}
-use Rattle.checking.specs.Deeds.{Deed, opens, calls, deed, ownRefusal, knownOf, knownAfter}
+use Rattle.checking.specs.Deeds.{Deed, opens, calls, deed, ownRefusal, knownAfter}
 use Rattle.checking.specs.Checks.{start, judged, met, checked}
-use Rattle.checking.proofs.Judging.{own, passed-few}
+use Rattle.checking.proofs.Judging.{own}
 use Rattle.checking.proofs.Passing.{one-more, some, refused-none, still, judged-accepted}
-use Rattle.player.proofs.Doing.{differ, opened-voices}
+use Rattle.player.proofs.Doing.{differ, isOpen, open-deed, known-after}
 use Rattle.player.proofs.Progress.{events-more}
 use Rattle.player.specs.Playing.{ifRecord, eventsFrom, events, after, levels, handed, heard}
 use Rattle.player.specs.Takes.{ifCall, callsOf, levelsOf, Due}
@@ -38,31 +38,15 @@ Closed (e ∷ es) = (Records.opens e ≡ false) × Closed es
 -- ---- a bank's replies
 
 -- A call leaves the voice count.
-same-known : (b : EnvelopeBank) (c : Call) → known (answer b c .bank) ≡ known b
+same-known : (b : Bank) (c : Call) → known (answer b c .bank) ≡ known b
 unfolding answer
 same-known b c = go (refusal (known b) c) refl
   where
     go : (n : ℕ) → refusal (known b) c ≡ n → known (ifAccepted n (moved b c) b) ≡ known b
-    go zero z = ap knownOf (kept b c z .voices)
+    go zero z = kept b c z .knows
     go (suc n) z = refl
 
-abbrev isOpen : Deed → Bool
-isOpen (opens o) = true
-isOpen (calls c) = false
-
-open-deed : (k : Known) (e : Event) → isOpen (deed k e) ≡ Records.opens e
-unfolding deed
-open-deed k (Event.Open n t p) = refl
-open-deed k (Event.SetParams v p) = refl
-open-deed k (Event.SetAllParams p) = refl
-open-deed k (Event.SetTiming t) = refl
-open-deed k (Event.Trigger v x) = refl
-open-deed k (Event.Release v) = refl
-open-deed k (Event.Reset v) = refl
-open-deed k (Event.Join v from) = refl
-open-deed k (Event.Frames n) = refl
-
-one-reply : (b : EnvelopeBank) (es : List Event) → ((x : EnvelopeBank) → heard x es ≡ levelsOf (repliesFrom x (callsOf (known x) es)))
+one-reply : (b : Bank) (es : List Event) → ((x : Bank) → heard x es ≡ levelsOf (repliesFrom x (callsOf (known x) es)))
     → (d : Deed) → isOpen d ≡ false
     → handed b d ++ heard (after b d) es ≡ levelsOf (repliesFrom b (ifCall d (λ c. c ∷ callsOf (learned (known b) c) es)))
 unfolding handed after repliesFrom
@@ -71,7 +55,7 @@ one-reply b es ih (calls c) q =
     let x = answer b c .bank in
     ap (λ (xs : List Float). levels (reply b c) ++ xs) (ih x ∙ ap (λ (k : Known). levelsOf (repliesFrom x (callsOf k es))) (same-known b c))
 
-heard-replies : (es : List Event) → Closed es → (b : EnvelopeBank) → heard b es ≡ levelsOf (repliesFrom b (callsOf (known b) es))
+heard-replies : (es : List Event) → Closed es → (b : Bank) → heard b es ≡ levelsOf (repliesFrom b (callsOf (known b) es))
 unfolding repliesFrom
 heard-replies [] C b = refl
 heard-replies (e ∷ es) C b = one-reply b es (λ x. heard-replies es (C .1) x) (deed (known b) e) (open-deed (known b) e ∙ C .0)
@@ -95,12 +79,9 @@ unfolding deed handed after ownRefusal knownAfter
 opened-due (Event.Open n t p) next q z es C =
     let o = opening n p t in
     let b = new o .bank in
-    let few : n ≤ 64 = passed-few start (Event.Open n t p) next (omega arith) z in
-    let held : min n 64 ≡ n = omega (arith, few) in
-    let size-is : size b ≡ n = opened-voices b o z ∙ held in
     heard-replies es C b
-    ∙ ap (λ (k : Known). levelsOf (repliesFrom b (callsOf k es))) (ap knownOf size-is)
-    ∙ ap levelsOf (replies-due b (firstReading o) (fresh-stands o) (callsOf (knownOf n) es))
+    ∙ ap (λ (k : Known). levelsOf (repliesFrom b (callsOf k es))) (known-after b (opens o) z)
+    ∙ ap levelsOf (replies-due b (firstReading o) (fresh-stands o) (callsOf (knownOf o) es))
 opened-due (Event.SetParams v p) next q z es C = absurd (differ (sym q))
 opened-due (Event.SetAllParams p) next q z es C = absurd (differ (sym q))
 opened-due (Event.SetTiming t) next q z es C = absurd (differ (sym q))

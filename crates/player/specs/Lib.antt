@@ -1,4 +1,3 @@
 -- Playing an event list: document 01, 'The event list'.
 pub mod Playing
 pub mod Takes
-pub mod Parts

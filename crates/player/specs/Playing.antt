@@ -3,14 +3,13 @@ use Prim.Native.Nat.{ℕ, zero, suc}
 use mathlib.Core.List.{List, [], _∷_, _++_}
 use lib.IntN.{ℤ, pos, negℤ}
 use lib.ListN.{length, drop}
-use lib.Ieee.{Float, binary32, toBits}
+use lib.Ieee.{Float}
 use Rattle.numbers.specs.Constants as Constants
 use Rattle.timing.specs.Clock as Clock
 use Rattle.settings.specs.Settings.{amp}
-use Rattle.rows.specs.Rows.{lowestFirst}
-use Rattle.bank.specs.declared.banks.EnvelopeBank.{EnvelopeBank}
 use Rattle.bank.specs.Calls.{opening, ifAccepted}
 use Rattle.bank.specs.Banks as Banks
+use Rattle.bank.specs.Banks.{Bank, bytes}
 use Rattle.bank.specs.Replies as Replies
 use Rattle.bank.specs.Replies.{Reply}
 use Rattle.events.specs.declared.Event.{Event}
@@ -37,11 +36,11 @@ events l = eventsFrom (length l) l 0
 -- ---- levels
 
 -- The bank before it is opened: the one that stands beside a refused fresh call.
-abbrev pub unopened : EnvelopeBank
+abbrev pub unopened : Bank
 unopened = Banks.new (opening 0 amp (Clock.new Constants.zero)) .bank
 
 -- The bank after an event, by the bank's own calls.
-unfoldable pub after : EnvelopeBank → Deed → EnvelopeBank
+unfoldable pub after : Bank → Deed → Bank
 after b (opens o) = Banks.new o .bank
 after b (calls c) = Banks.answer b c .bank
 
@@ -57,25 +56,24 @@ levels (Reply.isIdle x) = []
 levels (Reply.count n) = []
 
 -- What an event hands out.
-unfoldable pub handed : EnvelopeBank → Deed → List Float
+unfoldable pub handed : Bank → Deed → List Float
 handed b (opens o) = []
 handed b (calls c) = levels (Replies.reply b c)
 
 -- The levels of events that are played one after the other.
-abbrev pub heard : EnvelopeBank → List Event → List Float
+abbrev pub heard : Bank → List Event → List Float
 heard b [] = []
 heard b (e ∷ es) = let d = deed (Banks.known b) e in handed b d ++ heard (after b d) es
 
 -- ---- bytes
 
--- Four to a level: its bits.
-abbrev pub bytes : List Float → List ℕ
-bytes [] = []
-bytes (x ∷ xs) = lowestFirst 4 (toBits binary32 x) ++ bytes xs
-
 -- The bytes of a list's levels.
 abbrev pub levelBytes : List ℕ → List ℕ
 levelBytes l = bytes (heard unopened (events l))
+
+-- An output into which bytes were put from its first on: what it held past them is kept.
+abbrev pub put : List ℕ → List ℕ → List ℕ
+put bs out = bs ++ drop (length bs) out
 
 -- ---- what the host gets
 
@@ -85,9 +83,7 @@ result l outLength = let c = Checks.checked l outLength in ifAccepted (c .refusa
 
 -- The output: the levels' bytes from its first byte on, then what it held past them; all that it held if the list is refused.
 unfoldable pub output : List ℕ → List ℕ → List ℕ
-output l out =
-    let bs = levelBytes l in
-    ifAccepted (Checks.checked l (length out) .refusal) (bs ++ drop (length bs) out) out
+output l out = ifAccepted (Checks.checked l (length out) .refusal) (put (levelBytes l) out) out
 
 -- The refused record's first byte, or the list's length if nothing is refused.
 unfoldable pub refusedAt : List ℕ → ℕ → ℕ

@@ -5,11 +5,13 @@ use lib.Ieee.{Float}
 use Rattle.numbers.specs.Constants as Constants
 use Rattle.timing.specs.Clock as Clock
 use Rattle.settings.specs.Settings.{amp}
-use Rattle.bank.specs.Calls.{Opening, opening, Call, Known, learned}
+use Rattle.bank.specs.declared.known.Known.{Known}
+use Rattle.bank.specs.Calls.{Opening, opening, Call, knownOf, learned}
 use Rattle.bank.specs.Replies.{Reply}
 use Rattle.histories.specs.Demand.{firstReading, dues}
 use Rattle.events.specs.declared.Event.{Event}
-use Rattle.checking.specs.Deeds.{Deed, opens, calls, deed, knownOf}
+use Rattle.checking.specs.Deeds.{Deed, opens, calls, deed}
+use Rattle.checking.specs.Checks.{start}
 use Rattle.player.specs.Playing.{unopened, levels, heard}
 
 -- The fresh call of a list's first record, and the records after it.
@@ -19,7 +21,7 @@ openedBy (calls c) = opening 0 amp (Clock.new Constants.zero)
 
 abbrev pub openingOf : List Event → Opening
 openingOf [] = opening 0 amp (Clock.new Constants.zero)
-openingOf (e ∷ es) = openedBy (deed (knownOf 0) e)
+openingOf (e ∷ es) = openedBy (deed (start .known) e)
 
 abbrev pub laterOf : List Event → List Event
 laterOf [] = []
@@ -44,4 +46,4 @@ levelsOf (r ∷ rs) = levels r ++ levelsOf rs
 abbrev pub Due : List Event → Type 0
 Due es =
     let o = openingOf es in
-    heard unopened es ≡ levelsOf (dues (firstReading o) (callsOf (knownOf (o .voices)) (laterOf es)))
+    heard unopened es ≡ levelsOf (dues (firstReading o) (callsOf (knownOf o) (laterOf es)))

@@ -1,106 +1,128 @@
-// Plays an event list from bytes into bytes: the whole list is checked, then a bank is opened and
-// played.
-mod turns;
-
+// Plays an event list from bytes into bytes: the whole list is checked, then each record is read and
+// applied to a bank.
 ghost use mathlib.Core.Path.{_≡_};
+ghost use Prim.Native.Nat.{_*_, _/_, _≤_};
 ghost use lib.IntN.{pos, negℤ};
 ghost use lib.ListN.{length};
-ghost use lib.Seq.{sets};
+ghost use Rattle.memory.specs.Memory as Memory;
+ghost use Rattle.rows.specs.Strides as Strides;
+ghost use Rattle.bank.specs.Banks as Banks;
 ghost use Rattle.checking.specs.Checks as Checks;
+ghost use Rattle.checking.specs.Deeds as Deeds;
 ghost use Rattle.player.specs.Playing as Playing;
-use curve::Segment;
+use events::Event;
 use events::Reading;
-use lane::Voice;
+use memory::Bends;
+use memory::Codes;
+use memory::Counts;
+use memory::Floats;
 use settings::ACCEPTED;
+use settings::EnvelopeParams;
+use timing::Timing;
 
-// The rows of a group of lanes that are drawn before the next group: so few that what was drawn of a
-// row is still in the cache.
-const BLOCK: usize = 128;
+// So many frames, for which there is room, in bytes. Answers how many bytes they took.
+fn draw(
+    f: &mut Floats,
+    k: &mut Bends,
+    n: &mut Counts,
+    c: &mut Codes,
+    frames: u32,
+    out: &mut [u8],
+) -> usize
+    requires { ⌜ frames * Strides.strideOf (Banks.size (Banks.bankOf (Memory.arrays (now f) (now k) (now n) (now c)))) ≤ length (now out) / 4 ⌝ }
+    ensures bank { λ r. ⌜ Banks.bankOf (Memory.arrays (now (f .exit)) (now (k .exit)) (now (n .exit)) (now (c .exit))) ≡ Banks.frames frames (Banks.bankOf (Memory.arrays (now (f .entry)) (now (k .entry)) (now (n .entry)) (now (c .entry)))) ⌝ }
+    ensures levels { λ r. ⌜ now (out .exit) ≡ Playing.put (Banks.bytes (Banks.rows frames (Banks.bankOf (Memory.arrays (now (f .entry)) (now (k .entry)) (now (n .entry)) (now (c .entry)))))) (now (out .entry)) ⌝ }
+    ensures count { λ r. ⌜ r ≡ length (Banks.bytes (Banks.rows frames (Banks.bankOf (Memory.arrays (now (f .entry)) (now (k .entry)) (now (n .entry)) (now (c .entry)))))) ⌝ }
+{
+    let row = 4 * bank::stride(f, k, n, c);
+    bank::process_bytes(f, k, n, c, out, frames);
+    frames as usize * row
+}
 
-// Plays a list that is accepted. The bank is opened once, by the first record, and its arrays stay
-// where they are: each turn stores the voices that an event changes, or draws a run of the frames that
-// it asks for, after which the voices whose segment has ended change. All of it is one function, since
-// an array of plans can be lent to no other.
+// Applies an event to the bank: one arm a kind. Answers how many bytes were written.
+fn apply(
+    f: &mut Floats,
+    k: &mut Bends,
+    n: &mut Counts,
+    c: &mut Codes,
+    event: Event,
+    out: &mut [u8],
+) -> usize
+    requires { ⌜ Deeds.framesOf event * Strides.strideOf (Banks.size (Banks.bankOf (Memory.arrays (now f) (now k) (now n) (now c)))) ≤ length (now out) / 4 ⌝ }
+    ensures bank { λ r. ⌜ Banks.bankOf (Memory.arrays (now (f .exit)) (now (k .exit)) (now (n .exit)) (now (c .exit))) ≡ Playing.after (Banks.bankOf (Memory.arrays (now (f .entry)) (now (k .entry)) (now (n .entry)) (now (c .entry)))) (Deeds.deed (Banks.known (Banks.bankOf (Memory.arrays (now (f .entry)) (now (k .entry)) (now (n .entry)) (now (c .entry))))) event) ⌝ }
+    ensures levels { λ r. ⌜ now (out .exit) ≡ Playing.put (Banks.bytes (Playing.handed (Banks.bankOf (Memory.arrays (now (f .entry)) (now (k .entry)) (now (n .entry)) (now (c .entry)))) (Deeds.deed (Banks.known (Banks.bankOf (Memory.arrays (now (f .entry)) (now (k .entry)) (now (n .entry)) (now (c .entry))))) event))) (now (out .entry)) ⌝ }
+    ensures count { λ r. ⌜ r ≡ length (Banks.bytes (Playing.handed (Banks.bankOf (Memory.arrays (now (f .entry)) (now (k .entry)) (now (n .entry)) (now (c .entry)))) (Deeds.deed (Banks.known (Banks.bankOf (Memory.arrays (now (f .entry)) (now (k .entry)) (now (n .entry)) (now (c .entry))))) event))) ⌝ }
+{
+    match event {
+        Event::Open {
+            voices,
+            timing,
+            params,
+        } => {
+            bank::open(f, k, n, c, voices as usize, params, timing);
+            0
+        }
+        Event::SetParams { voice, params } => {
+            bank::set_params(f, k, n, c, voice as usize, params);
+            0
+        }
+        Event::SetAllParams(params) => {
+            bank::set_all_params(f, k, n, c, params);
+            0
+        }
+        Event::SetTiming(timing) => {
+            bank::set_timing(f, k, n, c, timing);
+            0
+        }
+        Event::Trigger { voice, trigger } => {
+            bank::trigger(f, k, n, c, voice as usize, trigger);
+            0
+        }
+        Event::Release(voice) => {
+            bank::release(f, k, n, c, voice as usize);
+            0
+        }
+        Event::Reset(voice) => {
+            bank::reset(f, k, n, c, voice as usize);
+            0
+        }
+        Event::Join { voice, from } => {
+            bank::join(f, k, n, c, voice as usize, from as usize);
+            0
+        }
+        Event::Frames(frames) => draw(f, k, n, c, frames, out),
+    }
+}
+
+// Plays a list that is accepted: record after record, each into the part of the output that the ones
+// before it left.
 fn play(list: &[u8], out: &mut [u8])
     requires { ⌜ Checks.checked (now list) (length (now out)) .refusal ≡ 0 ⌝ }
-    ensures { λ r. ⌜ now (out .exit) ≡ sets (now (out .entry)) 0 (Playing.levelBytes (now (list .entry))) ⌝ }
+    ensures { λ r. ⌜ now (out .exit) ≡ Playing.put (Playing.levelBytes (now (list .entry))) (now (out .entry)) ⌝ }
 {
-    let Reading::Record {
-        event: opening,
-        next: second,
-    } = events::read(list, 0)
-    else {
-        return;
-    };
-    let bank = turns::opened(opening);
-    let voices = bank.voices;
-    let count = rows::count(voices);
-    let groups = rows::groups(voices);
-    let row = 64 * groups;
-    let most = BLOCK / groups;
-    let mut timing = bank.timing;
-    let mut lanes = bank.lanes;
-    let mut u = bank.u;
-    let mut r = bank.r;
-    let mut d = bank.d;
-    let mut scale = bank.scale;
-    let mut base = bank.base;
-    let mut left = bank.left;
-    let mut at = second;
+    let mut f = [0.0f32; 1236];
+    let mut k = [0.0f64; 131];
+    let mut n = [0u64; 192];
+    let mut c = [0u32; 389];
+    bank::open(
+        &mut f,
+        &mut k,
+        &mut n,
+        &mut c,
+        0,
+        EnvelopeParams::AMP,
+        Timing::new(0.0),
+    );
+    let mut at = 0;
     let mut to = 0;
-    let mut records = list.len() - 1;
+    let mut records = list.len();
     while records > 0 {
         records -= 1;
         let Reading::Record { event, next } = events::read(list, at) else {
             return;
         };
         at = next;
-        timing = turns::timing_after(event, timing);
-        let turn = turns::turn_of(event, count);
-        let mut v = turn.first;
-        let mut last = turn.last;
-        let mut from = turn.from;
-        let mut rest = turn.frames;
-        loop {
-            if v < last {
-                let lane = lanes[from];
-                let before = Voice {
-                    lane: lane,
-                    seg: Segment {
-                        u: u[from],
-                        r: r[from],
-                        d: d[from],
-                        scale: scale[from],
-                        base: base[from],
-                        left: left[from],
-                    },
-                };
-                let after = turns::changed(before, timing, event);
-                let plan = after.lane;
-                let seg = after.seg;
-                lanes[v] = plan;
-                u[v] = seg.u;
-                r[v] = seg.r;
-                d[v] = seg.d;
-                scale[v] = seg.scale;
-                base[v] = seg.base;
-                left[v] = seg.left;
-                v = turns::next(&left, turn.frames, last, v + 1);
-                from = v;
-                continue;
-            }
-            if rest == 0 {
-                break;
-            }
-            let run = rows::shortest(&left, voices, turns::least(rest as usize, most));
-            u = rows::draw_bytes(&mut out[to..], voices, run, u, &r, &d, &scale, &base).u;
-            left = rows::count_down(left, voices, run).left;
-            to += run as usize * row;
-            rest -= run;
-            v = rows::next_ended(&left, voices, 0);
-            last = count;
-            from = v;
-        }
+        to += apply(&mut f, &mut k, &mut n, &mut c, event, &mut out[to..]);
     }
 }
 

@@ -4,7 +4,7 @@ use native.Mathlib.Omega.{arith}
 use native.Mathlib.Nat.{div-mul-le-self}
 use lib.ListN.{length}
 use Rattle.rows.specs.Strides.{strideOf}
-use Rattle.histories.proofs.Rows.{stride-holds}
+use Rattle.bank.proofs.Frames.{stride-holds}
 use Rattle.checking.proofs.Passing.{Held, checked-held}
 use borrow.Author.Needs.{needs}
 use Rattle.play.proofs.show.Statement.{statement}
@@ -33,10 +33,10 @@ print-frames-requires c κs =
     let q = c₈ .check in
     let n = length (a .out .now) in
     let H = subst (Held (n / 4)) (sym (q .ensures)) (checked-held (a .list .now) n) in
-    let m : min (q .result .voices) 64 ≡ q .result .voices = omega (arith, H .voices) in
-    let s : c .stride-of .result ≡ strideOf (q .result .voices) = c .stride-of .ensures ∙ ap strideOf m in
+    let m : min (q .result .known .voices) 64 ≡ q .result .known .voices = omega (arith, H .voices) in
+    let s : c .stride-of .result ≡ strideOf (q .result .known .voices) = c .stride-of .ensures ∙ ap strideOf m in
     let e = ap (λ (k : ℕ). q .result .frames * k) s in
-    (omega (arith, s, stride-holds (q .result .voices) .0), omega (arith, e, H .levels, div-mul-le-self n 4, c₄ .worfelli-play .kept .1 .0))
+    (omega (arith, s, stride-holds (q .result .known .voices) .0), omega (arith, e, H .levels, div-mul-le-self n 4, c₄ .worfelli-play .kept .1 .0))
 
 same-length : tie.Need-same-length
 same-length c = search needs

@@ -1,26 +1,25 @@
 use mathlib.Core.Path.{_≡_, sym, ap, _∙_, subst}
-use mathlib.Core.List.{List, _++_}
+use mathlib.Core.List.{List}
 use Prim.Native.Nat.{ℕ, _/_, _^_, _<_}
 use native.Mathlib.Omega.{arith}
 use lib.IntN.{pos, negℤ}
-use lib.ListN.{length, drop}
+use lib.ListN.{length}
 use mir.Syntax.{w64}
 use mir.Val.{SFits}
 use mir.ValLaws.{toZ-pos, toZ-ofZ}
 use Rattle.bank.specs.Calls.{ifAccepted}
 use Rattle.checking.specs.declared.Checked.{Checked}
-use Rattle.checking.proofs.Judging.{if-refused, if-accepted}
+use Rattle.bank.proofs.Accepted.{if-refused, if-accepted}
 use Rattle.checking.proofs.Passing.{held-frames, checked-held}
 use Rattle.player.proofs.Signs.{negative-fits}
-use Rattle.player.proofs.Written.{bytes-written}
-use Rattle.player.specs.Playing.{levelBytes, result, output}
+use Rattle.player.specs.Playing.{levelBytes, put, result, output}
 use borrow.Author.Needs.{needs}
 use Rattle.player.proofs.worfelli_play.Statement.{statement}
 use Rattle.player.proofs.worfelli_play.Tie as tie
 
 -- The output of an accepted list.
 abbrev after-playing : List ℕ → List ℕ → List ℕ
-after-playing l out = levelBytes l ++ drop (length (levelBytes l)) out
+after-playing l out = put (levelBytes l) out
 
 -- An output holds fewer frames than bytes.
 small : (c : tie.After-check) → c .check .result .frames < 2 ^ 63
@@ -71,13 +70,11 @@ returns-2 c =
     let a = c₇ .before .before .before .args in
     let q = c₇ .check in
     let z : q .result .refusal ≡ 0 = omega (arith, c .before .before .before .before .before .if1 .left) in
-    let accepted = sym (ap (λ (x : Checked). x .refusal) (q .ensures)) ∙ z in
     let x = after-playing (a .list .now) (a .out .now) in (
       toZ-pos w64 (q .result .frames) (small c₇)
           ∙ sym (if-accepted (q .result .refusal) (pos (q .result .frames)) (negℤ (pos (q .result .refusal))) z)
           ∙ ap (λ (x : Checked). ifAccepted (x .refusal) (pos (x .frames)) (negℤ (pos (x .refusal)))) (q .ensures),
       c .before .before .before .play .ensures
-          ∙ bytes-written (a .list .now) (a .out .now) accepted
           ∙ sym (if-accepted (q .result .refusal) x (a .out .now) z)
           ∙ ap (λ (y : Checked). ifAccepted (y .refusal) x (a .out .now)) (q .ensures),
     )
