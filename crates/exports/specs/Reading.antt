@@ -5,7 +5,7 @@ use lib.Dec.{eqb}
 use lib.Ieee.{binary32, toBits}
 use Rattle.settings.specs.declared.stages.Stage.{Stage}
 use Rattle.settings.specs.declared.stages.Stage.the-variants.{Idle, Delay, Attack, Hold, Decay, Sustain, Release}
-use Rattle.bank.specs.declared.banks.EnvelopeBank.{EnvelopeBank}
+use Rattle.bank.specs.Banks.{Bank}
 use Rattle.bank.specs.Calls.{Call, Query}
 use Rattle.bank.specs.Replies.{Reply, reply}
 use Rattle.exports.specs.Take.{next}
@@ -50,6 +50,6 @@ abbrev pub more : ℕ → ℕ → ℕ
 more sum n = (sum + n) % 2 ^ 64
 
 -- The sum and n readings of a kind of the voices in turn, from the voice v on.
-abbrev pub ofBank : ℕ → ℕ → ℕ → ℕ → EnvelopeBank → ℕ → ℕ
+abbrev pub ofBank : ℕ → ℕ → ℕ → ℕ → Bank → ℕ → ℕ
 ofBank kind zero last v b sum = sum
 ofBank kind (suc n) last v b sum = ofBank kind n last (next last v) b (more sum (number (reply b (Call.ask (query kind v)))))

@@ -2,114 +2,146 @@
 // this.
 ghost use mathlib.Core.Path.{_≡_};
 ghost use Prim.Native.Nat.{_-_};
+ghost use Rattle.memory.specs.Memory as Memory;
+ghost use Rattle.bank.specs.Banks as Banks;
+ghost use Rattle.bank.specs.Calls as Calls;
 ghost use Rattle.bank.specs.Calls.{Call};
 ghost use Rattle.bank.specs.Replies as Replies;
 ghost use Rattle.exports.specs.Note as Note;
 ghost use Rattle.exports.specs.Reading as Reading;
 ghost use Rattle.exports.specs.Take as Take;
 use crate::asked;
-use bank::Answer;
-use bank::EnvelopeBank;
 use bank::FramesReading;
 use bank::IdleReading;
 use bank::LevelReading;
 use bank::ParamsReading;
 use bank::StageReading;
+use memory::Bends;
+use memory::Codes;
+use memory::Counts;
+use memory::Floats;
+use memory::timing_of;
 use settings::EnvelopeParams;
 use settings::Trigger;
 use timing::Timing;
 
-// The bank after calls of a kind on all voices: 8 the settings `params`, 9 other settings and then
-// these, 10 the timing that it has, else half of every time and then that timing.
-fn called_all(bank: EnvelopeBank, kind: u32, params: EnvelopeParams) -> EnvelopeBank
-    ensures { λ r. ⌜ r ≡ Take.calledAll kind params bank ⌝ }
+// Calls of a kind on all voices: 8 the settings `params`, 9 other settings and then these, 10 the timing
+// that they have, else half of every time and then that timing.
+fn call_all(
+    f: &mut Floats,
+    k: &mut Bends,
+    n: &mut Counts,
+    c: &mut Codes,
+    kind: u32,
+    params: EnvelopeParams,
+)
+    ensures { λ _. ⌜ Banks.bankOf (Memory.arrays (now (f .exit)) (now (k .exit)) (now (n .exit)) (now (c .exit))) ≡ Take.calledAll kind params (Banks.bankOf (Memory.arrays (now (f .entry)) (now (k .entry)) (now (n .entry)) (now (c .entry)))) ⌝ }
 {
     match kind {
-        8 => bank.set_all_params(params).bank,
-        9 => {
-            let changed = bank.set_all_params(asked::other(params)).bank;
-            changed.set_all_params(params).bank
+        8 => {
+            bank::set_all_params(f, k, n, c, params);
         }
-        10 => bank.set_timing(bank.timing).bank,
+        9 => {
+            bank::set_all_params(f, k, n, c, asked::other(params));
+            bank::set_all_params(f, k, n, c, params);
+        }
+        10 => {
+            bank::set_timing(f, k, n, c, timing_of(k));
+        }
         _ => {
-            let timing = bank.timing;
-            let changed = bank.set_timing(asked::halved(timing)).bank;
-            changed.set_timing(timing).bank
+            let timing = timing_of(k);
+            bank::set_timing(f, k, n, c, asked::halved(timing));
+            bank::set_timing(f, k, n, c, timing);
         }
     }
 }
 
-// The bank after calls of a kind on a voice: 0 a new note, 1 a new note and its release, 2 the settings
-// `params`, 3 other settings and then these, 4 a reset, 5 a retrigger, 6 a legato note, 7 a join of
-// `from`; else on all voices.
-fn called(
-    bank: EnvelopeBank,
+// Calls of a kind on a voice: 0 a new note, 1 a new note and its release, 2 the settings `params`,
+// 3 other settings and then these, 4 a reset, 5 a retrigger, 6 a legato note, 7 a join of `from`; else
+// on all voices.
+fn call(
+    f: &mut Floats,
+    k: &mut Bends,
+    n: &mut Counts,
+    c: &mut Codes,
     kind: u32,
     voice: usize,
     from: usize,
     params: EnvelopeParams,
-) -> EnvelopeBank
-    ensures { λ r. ⌜ r ≡ Take.called kind voice from params bank ⌝ }
+)
+    ensures { λ _. ⌜ Banks.bankOf (Memory.arrays (now (f .exit)) (now (k .exit)) (now (n .exit)) (now (c .exit))) ≡ Take.called kind voice from params (Banks.bankOf (Memory.arrays (now (f .entry)) (now (k .entry)) (now (n .entry)) (now (c .entry)))) ⌝ }
 {
     match kind {
-        0 => bank.trigger(voice, Trigger::New).bank,
+        0 => {
+            bank::trigger(f, k, n, c, voice, Trigger::New);
+        }
         1 => {
-            let struck = bank.trigger(voice, Trigger::New).bank;
-            struck.release(voice).bank
+            bank::trigger(f, k, n, c, voice, Trigger::New);
+            bank::release(f, k, n, c, voice);
         }
-        2 => bank.set_params(voice, params).bank,
+        2 => {
+            bank::set_params(f, k, n, c, voice, params);
+        }
         3 => {
-            let changed = bank.set_params(voice, asked::other(params)).bank;
-            changed.set_params(voice, params).bank
+            bank::set_params(f, k, n, c, voice, asked::other(params));
+            bank::set_params(f, k, n, c, voice, params);
         }
-        4 => bank.reset(voice).bank,
-        5 => bank.trigger(voice, Trigger::Retrigger).bank,
-        6 => bank.trigger(voice, Trigger::Legato).bank,
-        7 => bank.join(voice, from).bank,
-        _ => called_all(bank, kind, params),
+        4 => {
+            bank::reset(f, k, n, c, voice);
+        }
+        5 => {
+            bank::trigger(f, k, n, c, voice, Trigger::Retrigger);
+        }
+        6 => {
+            bank::trigger(f, k, n, c, voice, Trigger::Legato);
+        }
+        7 => {
+            bank::join(f, k, n, c, voice, from);
+        }
+        _ => call_all(f, k, n, c, kind, params),
     }
 }
 
-// The bank after `times` of these, on one voice up to `last` after the other.
-fn repeated(
-    bank: EnvelopeBank,
+// `times` of these, on one voice up to `last` after the other.
+fn repeat(
+    f: &mut Floats,
+    k: &mut Bends,
+    n: &mut Counts,
+    c: &mut Codes,
     kind: u32,
     times: u32,
     last: usize,
     params: EnvelopeParams,
-) -> EnvelopeBank
-    ensures { λ r. ⌜ r ≡ Take.repeated kind times last 0 params bank ⌝ }
+)
+    ensures { λ _. ⌜ Banks.bankOf (Memory.arrays (now (f .exit)) (now (k .exit)) (now (n .exit)) (now (c .exit))) ≡ Take.repeated kind times last 0 params (Banks.bankOf (Memory.arrays (now (f .entry)) (now (k .entry)) (now (n .entry)) (now (c .entry)))) ⌝ }
 {
-    let mut b = bank;
     let mut voice = 0;
     let mut rest = times;
     while rest > 0 {
         let next = asked::next(last, voice);
-        b = called(b, kind, voice, next, params);
+        call(f, k, n, c, kind, voice, next, params);
         voice = next;
         rest -= 1;
     }
-    b
 }
 
-// A fresh bank of so many voices after new notes on them in turn, and the fresh call's refusal.
-fn struck(
-    sample_rate: f64,
-    attack: f32,
-    decay: f32,
-    sustain: f32,
+// Opens a bank, and makes new notes on its voices in turn. Answers the opening's refusal.
+fn strike(
+    f: &mut Floats,
+    k: &mut Bends,
+    n: &mut Counts,
+    c: &mut Codes,
     voices: usize,
+    params: EnvelopeParams,
+    timing: Timing,
     notes: u32,
-) -> Answer
-    ensures { λ r. ⌜ r ≡ Take.struck «sample_rate» attack decay sustain voices notes ⌝ }
+) -> u32
+    ensures refusal { λ r. ⌜ r ≡ Banks.new (Calls.opening voices params timing) .refusal ⌝ }
+    ensures bank { λ r. ⌜ Banks.bankOf (Memory.arrays (now (f .exit)) (now (k .exit)) (now (n .exit)) (now (c .exit))) ≡ Take.repeated 0 notes (voices - 1) 0 params (Banks.new (Calls.opening voices params timing) .bank) ⌝ }
 {
-    let params = asked::settings(attack, decay, sustain);
-    let fresh = EnvelopeBank::new(voices, params, Timing::new(sample_rate));
-    let bank = repeated(fresh.bank, 0, notes, asked::last(voices), params);
-    Answer {
-        refusal: fresh.refusal,
-        bank: bank,
-    }
+    let refusal = bank::open(f, k, n, c, voices, params, timing);
+    repeat(f, k, n, c, 0, notes, asked::last(voices), params);
+    refusal
 }
 
 // Makes new notes on the voices of a fresh bank in turn, then `calls` calls of a kind on them, and then
@@ -130,16 +162,21 @@ pub extern "C" fn worfelli_take(
     ensures refusal { λ r. ⌜ r ≡ Take.struck «sample_rate» attack decay sustain voices notes .refusal ⌝ }
     ensures written { λ r. ⌜ now (out .exit) ≡ Take.blocks blocks (Take.repeated kind calls (voices - 1) 0 (Note.settings attack decay sustain) (Take.struck «sample_rate» attack decay sustain voices notes .bank)) (now (out .entry)) ⌝ }
 {
-    let opened = struck(sample_rate, attack, decay, sustain, voices, notes);
+    let mut f = [0.0f32; 1236];
+    let mut k = [0.0f64; 131];
+    let mut n = [0u64; 192];
+    let mut c = [0u32; 389];
     let params = asked::settings(attack, decay, sustain);
+    let clock = Timing::new(sample_rate);
+    let refusal = strike(&mut f, &mut k, &mut n, &mut c, voices, params, clock, notes);
     let last = asked::last(voices);
-    let mut bank = repeated(opened.bank, kind, calls, last, params);
+    repeat(&mut f, &mut k, &mut n, &mut c, kind, calls, last, params);
     let mut rest = blocks;
     while rest > 0 {
-        bank = bank.process(out).bank;
+        bank::process(&mut f, &mut k, &mut n, &mut c, out);
         rest -= 1;
     }
-    opened.refusal
+    refusal
 }
 
 fn params_number(x: ParamsReading) -> u64
@@ -189,18 +226,18 @@ fn frames_number(x: FramesReading) -> u64
 
 // A reading of a kind as a number: 0 the bits of the settings' decay, 1 a stage's number, 2 the bits of a
 // level, 3 whether it is idle, 4 tail, 5 lead, 6 the voices, else the stride.
-fn read(bank: EnvelopeBank, kind: u32, voice: usize) -> u64
-    ensures { λ r. ⌜ r ≡ Reading.number (Replies.reply bank (Call.ask (Reading.query kind voice))) ⌝ }
+fn read(f: &Floats, k: &Bends, n: &Counts, c: &Codes, kind: u32, voice: usize) -> u64
+    ensures { λ r. ⌜ r ≡ Reading.number (Replies.reply (Banks.bankOf (Memory.arrays (now (f .entry)) (now (k .entry)) (now (n .entry)) (now (c .entry)))) (Call.ask (Reading.query kind voice))) ⌝ }
 {
     match kind {
-        0 => params_number(bank.params(voice)),
-        1 => stage_number(bank.stage(voice)),
-        2 => level_number(bank.level(voice)),
-        3 => idle_number(bank.is_idle(voice)),
-        4 => frames_number(bank.tail(voice)),
-        5 => frames_number(bank.lead(voice)),
-        6 => bank.voices() as u64,
-        _ => bank.stride() as u64,
+        0 => params_number(bank::params(f, k, n, c, voice)),
+        1 => stage_number(bank::stage(f, k, n, c, voice)),
+        2 => level_number(bank::level(f, k, n, c, voice)),
+        3 => idle_number(bank::is_idle(f, k, n, c, voice)),
+        4 => frames_number(bank::tail(f, k, n, c, voice)),
+        5 => frames_number(bank::lead(f, k, n, c, voice)),
+        6 => bank::voices(f, k, n, c) as u64,
+        _ => bank::stride(f, k, n, c) as u64,
     }
 }
 
@@ -219,13 +256,19 @@ pub extern "C" fn worfelli_bank_readings(
 ) -> u64
     ensures { λ r. ⌜ r ≡ Reading.ofBank kind times (voices - 1) 0 (Take.struck «sample_rate» attack decay sustain voices notes .bank) 0 ⌝ }
 {
-    let bank = struck(sample_rate, attack, decay, sustain, voices, notes).bank;
+    let mut f = [0.0f32; 1236];
+    let mut k = [0.0f64; 131];
+    let mut n = [0u64; 192];
+    let mut c = [0u32; 389];
+    let params = asked::settings(attack, decay, sustain);
+    let clock = Timing::new(sample_rate);
+    strike(&mut f, &mut k, &mut n, &mut c, voices, params, clock, notes);
     let last = asked::last(voices);
     let mut sum = 0;
     let mut voice = 0;
     let mut rest = times;
     while rest > 0 {
-        sum = std::num::wrapping_add_u64(sum, read(bank, kind, voice));
+        sum = std::num::wrapping_add_u64(sum, read(&f, &k, &n, &c, kind, voice));
         voice = asked::next(last, voice);
         rest -= 1;
     }

@@ -4,28 +4,27 @@ ghost use lib.ListN.{length};
 use crate::bank_replies;
 use crate::calls;
 use crate::replies;
-use bank::Answer;
-use bank::EnvelopeBank;
+use memory::Bends;
+use memory::Codes;
+use memory::Counts;
+use memory::Floats;
 use settings::ACCEPTED;
 
-// The answer of a call that writes no levels and reads nothing.
-fn called(b: EnvelopeBank, call: &[u8]) -> Answer
+// Makes a call that writes no levels and reads nothing, and answers its refusal.
+fn called(f: &mut Floats, k: &mut Bends, n: &mut Counts, c: &mut Codes, call: &[u8]) -> u32
     requires { ⌜ 88 ≤ length (now call) ⌝ }
 {
     let voice = calls::voice(call);
     match call[0] {
-        9 => EnvelopeBank::new(voice, calls::params(call), calls::timing(call)),
-        10 => b.set_params(voice, calls::params(call)),
-        11 => b.set_all_params(calls::params(call)),
-        12 => b.set_timing(calls::timing(call)),
-        13 => b.trigger(voice, calls::kind(call[1])),
-        14 => b.release(voice),
-        15 => b.reset(voice),
-        16 => b.join(voice, calls::source(call)),
-        _ => Answer {
-            refusal: ACCEPTED,
-            bank: b,
-        },
+        9 => bank::open(f, k, n, c, voice, calls::params(call), calls::timing(call)),
+        10 => bank::set_params(f, k, n, c, voice, calls::params(call)),
+        11 => bank::set_all_params(f, k, n, c, calls::params(call)),
+        12 => bank::set_timing(f, k, n, c, calls::timing(call)),
+        13 => bank::trigger(f, k, n, c, voice, calls::kind(call[1])),
+        14 => bank::release(f, k, n, c, voice),
+        15 => bank::reset(f, k, n, c, voice),
+        16 => bank::join(f, k, n, c, voice, calls::source(call)),
+        _ => ACCEPTED,
     }
 }
 
@@ -40,29 +39,41 @@ fn fill(levels: &mut [f32], count: usize)
     }
 }
 
-// The bank after a process, which is answered.
-fn processed(b: EnvelopeBank, count: usize, levels: &mut [f32]) -> EnvelopeBank
+// Makes a process, which is answered.
+fn process(
+    f: &mut Floats,
+    k: &mut Bends,
+    n: &mut Counts,
+    c: &mut Codes,
+    count: usize,
+    levels: &mut [f32],
+)
     requires { ⌜ (count ≤ 262144) × (count ≤ length (now levels)) ⌝ }
 {
     fill(levels, count);
-    let answer = b.process(&mut levels[0..count]);
-    replies::write_word(answer.refusal);
+    let refusal = bank::process(f, k, n, c, &mut levels[0..count]);
+    replies::write_word(refusal);
     replies::write_levels(levels, count);
-    answer.bank
 }
 
-// The bank after a call, which is answered.
-pub(crate) fn answered(b: EnvelopeBank, call: &[u8], levels: &mut [f32]) -> EnvelopeBank
+// Makes a call, which is answered.
+pub(crate) fn answer(
+    f: &mut Floats,
+    k: &mut Bends,
+    n: &mut Counts,
+    c: &mut Codes,
+    call: &[u8],
+    levels: &mut [f32],
+)
     requires { ⌜ (88 ≤ length (now call)) × (262144 ≤ length (now levels)) ⌝ }
 {
     if call[0] == 17 {
-        return processed(b, calls::count(call, 262144), levels);
+        process(f, k, n, c, calls::count(call, 262144), levels);
+        return;
     }
     if call[0] == 18 {
-        bank_replies::write_readings(b, calls::voice(call));
-        return b;
+        bank_replies::write_readings(f, k, n, c, calls::voice(call));
+        return;
     }
-    let answer = called(b, call);
-    replies::write_word(answer.refusal);
-    answer.bank
+    replies::write_word(called(f, k, n, c, call));
 }

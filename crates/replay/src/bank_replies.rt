@@ -4,12 +4,15 @@ ghost use mathlib.Core.Path.{_≡_};
 ghost use lib.ListN.{length};
 use crate::replies;
 use crate::replies::Told;
-use bank::EnvelopeBank;
 use bank::FramesReading;
 use bank::IdleReading;
 use bank::LevelReading;
 use bank::ParamsReading;
 use bank::StageReading;
+use memory::Bends;
+use memory::Codes;
+use memory::Counts;
+use memory::Floats;
 use settings::ACCEPTED;
 use settings::EnvelopeParams;
 use settings::NO_SUCH_VOICE;
@@ -85,29 +88,29 @@ fn frames_read(x: FramesReading) -> u64 {
     }
 }
 
-fn told(b: EnvelopeBank, voice: usize) -> Told {
+fn told(f: &Floats, k: &Bends, n: &Counts, c: &Codes, voice: usize) -> Told {
     Told {
-        params: params_read(b.params(voice)),
-        stage: stage_read(b.stage(voice)),
-        idle: idle_read(b.is_idle(voice)),
-        level: level_read(b.level(voice)),
-        tail: frames_read(b.tail(voice)),
-        lead: frames_read(b.lead(voice)),
+        params: params_read(bank::params(f, k, n, c, voice)),
+        stage: stage_read(bank::stage(f, k, n, c, voice)),
+        idle: idle_read(bank::is_idle(f, k, n, c, voice)),
+        level: level_read(bank::level(f, k, n, c, voice)),
+        tail: frames_read(bank::tail(f, k, n, c, voice)),
+        lead: frames_read(bank::lead(f, k, n, c, voice)),
     }
 }
 
 // The other readings' refusals, and the numbers that never refuse.
-fn rest(b: EnvelopeBank, voice: usize) -> [u32; 9]
+fn rest(f: &Floats, k: &Bends, n: &Counts, c: &Codes, voice: usize) -> [u32; 9]
     ensures { λ r. ⌜ 9 ≡ length r ⌝ }
 {
-    let voices = b.voices() as u64;
-    let stride = b.stride() as u64;
+    let voices = bank::voices(f, k, n, c) as u64;
+    let stride = bank::stride(f, k, n, c) as u64;
     [
-        stage_refusal(b.stage(voice)),
-        idle_refusal(b.is_idle(voice)),
-        level_refusal(b.level(voice)),
-        frames_refusal(b.tail(voice)),
-        frames_refusal(b.lead(voice)),
+        stage_refusal(bank::stage(f, k, n, c, voice)),
+        idle_refusal(bank::is_idle(f, k, n, c, voice)),
+        level_refusal(bank::level(f, k, n, c, voice)),
+        frames_refusal(bank::tail(f, k, n, c, voice)),
+        frames_refusal(bank::lead(f, k, n, c, voice)),
         replies::low(voices),
         replies::high(voices),
         replies::low(stride),
@@ -116,9 +119,12 @@ fn rest(b: EnvelopeBank, voice: usize) -> [u32; 9]
 }
 
 // Everything that is read of a voice.
-pub(crate) fn write_readings(b: EnvelopeBank, voice: usize) {
-    replies::write_told(params_refusal(b.params(voice)), told(b, voice));
-    let words = rest(b, voice);
+pub(crate) fn write_readings(f: &Floats, k: &Bends, n: &Counts, c: &Codes, voice: usize) {
+    replies::write_told(
+        params_refusal(bank::params(f, k, n, c, voice)),
+        told(f, k, n, c, voice),
+    );
+    let words = rest(f, k, n, c, voice);
     let mut bytes = [0u8; 36];
     replies::put_words(&mut bytes, &words, 9);
     io::write_all(1, &bytes);

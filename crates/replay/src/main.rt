@@ -28,17 +28,14 @@ mod replies;
 
 ghost use Prim.Native.Nat.{_≤_};
 ghost use lib.ListN.{length};
-use bank::EnvelopeBank;
 use envelope::Envelope;
+use memory::Bends;
+use memory::Codes;
+use memory::Counts;
+use memory::Floats;
 use settings::ACCEPTED;
 use settings::EnvelopeParams;
 use timing::Timing;
-
-// What the calls are made on.
-struct State {
-    envelope: Envelope,
-    bank: EnvelopeBank,
-}
 
 // One frame by `after_frame`, or a block.
 fn drawn(e: Envelope, tag: u8, frames: usize, levels: &mut [f32]) -> Envelope
@@ -93,47 +90,45 @@ fn envelope_answered(e: Envelope, call: &[u8], levels: &mut [f32]) -> Envelope
     after
 }
 
-// The state after a call, which is answered.
-fn answered(s: State, call: &[u8], levels: &mut [f32]) -> State
+// The envelope after a call on it or on the bank, which is answered.
+fn answered(
+    e: Envelope,
+    f: &mut Floats,
+    k: &mut Bends,
+    n: &mut Counts,
+    c: &mut Codes,
+    call: &[u8],
+    levels: &mut [f32],
+) -> Envelope
     requires { ⌜ (88 ≤ length (now call)) × (262144 ≤ length (now levels)) ⌝ }
 {
-    let e = s.envelope;
-    let b = s.bank;
     if call[0] > 18 {
-        return State {
-            envelope: note_answered(e, call, levels),
-            bank: b,
-        };
+        return note_answered(e, call, levels);
     }
     if call[0] > 8 {
-        return State {
-            envelope: e,
-            bank: bank_calls::answered(b, call, levels),
-        };
+        bank_calls::answer(f, k, n, c, call, levels);
+        return e;
     }
-    State {
-        envelope: envelope_answered(e, call, levels),
-        bank: b,
-    }
+    envelope_answered(e, call, levels)
 }
 
 fn main() {
     let mut call = [0u8; 88];
     let mut levels = [0f32; 262144];
-    let fresh = Envelope::fresh(EnvelopeParams::AMP, Timing::new(0.0));
-    let opened = EnvelopeBank::new(0, EnvelopeParams::AMP, Timing::new(0.0));
-    let e = fresh.envelope;
-    let b = opened.bank;
-    let mut state = State {
-        envelope: e,
-        bank: b,
-    };
+    let mut f = [0f32; 1236];
+    let mut k = [0f64; 131];
+    let mut n = [0u64; 192];
+    let mut c = [0u32; 389];
+    let amp = EnvelopeParams::AMP;
+    let timing = Timing::new(0.0);
+    bank::open(&mut f, &mut k, &mut n, &mut c, 0, amp, timing);
+    let mut e = Envelope::fresh(amp, timing).envelope;
     let mut calls: u64 = 0xffff_ffff_ffff_ffff;
     while calls > 0 {
         if io::read_full(0, &mut call) < 88 {
             return;
         }
-        state = answered(state, &call, &mut levels);
+        e = answered(e, &mut f, &mut k, &mut n, &mut c, &call, &mut levels);
         calls -= 1;
     }
 }

@@ -1,27 +1,23 @@
 use mathlib.Core.Path.{_≡_}
-use Prim.Native.Nat.{_-_}
 use borrow.Author.Needs.{needs}
 use lib.ListN.{length}
 use Rattle.replay.proofs.main.Statement.{statement}
 use Rattle.replay.proofs.main.Tie as tie
 
 abbrev Inv-loop : tie.InvT-loop
-Inv-loop call₀ levels₀ state₀ calls₀ call levels state calls = (length call ≡ 88) × (length levels ≡ 262144)
+Inv-loop call₀ levels₀ f₀ k₀ n₀ c₀ e₀ calls₀ call levels f k n c e calls = (length call ≡ 88) × (length levels ≡ 262144)
 
 abbrev μ-loop : tie.MeasureT-loop
-μ-loop call₀ levels₀ state₀ calls₀ call levels state calls = calls
+μ-loop call₀ levels₀ f₀ k₀ n₀ c₀ e₀ calls₀ call levels f k n c e calls = calls
 
 new-requires : tie.Need-new-requires Inv-loop μ-loop
 new-requires c κs = search needs
 
+open-requires : tie.Need-open-requires Inv-loop μ-loop
+open-requires c κs = search needs
+
 fresh-requires : tie.Need-fresh-requires Inv-loop μ-loop
 fresh-requires c κs = search needs
-
-new-requires-2 : tie.Need-new-requires-2 Inv-loop μ-loop
-new-requires-2 c κs = search needs
-
-new-requires-3 : tie.Need-new-requires-3 Inv-loop μ-loop
-new-requires-3 c κs = search needs
 
 loop-holds : tie.Need-loop-holds Inv-loop μ-loop
 loop-holds c = search needs
@@ -63,9 +59,8 @@ main-spec =
     Inv-loop
     μ-loop
     new-requires
+    open-requires
     fresh-requires
-    new-requires-2
-    new-requires-3
     loop-holds
     slice-aggregate-read-full
     read-full-requires

@@ -1,17 +1,19 @@
-use mathlib.Core.Path.{_≡_, refl, sym, ap, ap₂, _∙_, subst}
+use mathlib.Core.Path.{_≡_, refl, sym, ap, ap₂, _∙_}
 use Prim.Native.Nat.{ℕ, zero, suc, _-_, _<_}
 use native.Mathlib.Omega.{arith}
 use borrow.Author.Needs.{needs}
-use Rattle.bank.specs.declared.banks.EnvelopeBank.{EnvelopeBank}
-use Rattle.bank.specs.declared.banks.Answer.{Answer}
-use Rattle.bank.specs.Calls.{Call}
+use Rattle.timing.specs.declared.Timing.{Timing}
+use Rattle.settings.specs.declared.settings.EnvelopeParams.{EnvelopeParams}
+use Rattle.memory.specs.Memory.{arrays}
+use Rattle.bank.specs.Calls.{Call, opening}
+use Rattle.bank.specs.Banks.{Bank, bankOf, new}
 use Rattle.bank.specs.Replies.{reply}
 use Rattle.exports.specs.Take as Take
 use Rattle.exports.specs.Reading as Reading
 use Rattle.exports.proofs.banks.worfelli_bank_readings.Statement.{statement}
 use Rattle.exports.proofs.banks.worfelli_bank_readings.Tie as tie
 
-one-more : (kind n last v : ℕ) (b : EnvelopeBank) (sum : ℕ) → 0 < n
+one-more : (kind n last v : ℕ) (b : Bank) (sum : ℕ) → 0 < n
     → Reading.ofBank kind n last v b sum
     ≡ Reading.ofBank kind (n - 1) last (Take.next last v) b (Reading.more sum (Reading.number (reply b (Call.ask (Reading.query kind v)))))
 one-more kind zero last v b sum h = absurd (omega arith)
@@ -20,14 +22,20 @@ one-more kind (suc n) last v b sum h =
     ap (λ (m : ℕ). Reading.ofBank kind m last (Take.next last v) b (Reading.more sum (Reading.number (reply b (Call.ask (Reading.query kind v)))))) e
 
 abbrev Inv-loop : tie.InvT-loop
-Inv-loop sample-rate attack decay sustain voices notes kind times bank last sum₀ voice₀ rest₀ sum voice rest =
-    Reading.ofBank kind rest last voice bank sum ≡ Reading.ofBank kind times last 0 bank 0
+Inv-loop sample-rate attack decay sustain voices notes kind times f k n c last sum₀ voice₀ rest₀ sum voice rest =
+    Reading.ofBank kind rest last voice (bankOf (arrays f k n c)) sum ≡ Reading.ofBank kind times last 0 (bankOf (arrays f k n c)) 0
 
 abbrev μ-loop : tie.MeasureT-loop
-μ-loop sample-rate attack decay sustain voices notes kind times bank last sum₀ voice₀ rest₀ sum voice rest = rest
+μ-loop sample-rate attack decay sustain voices notes kind times f k n c last sum₀ voice₀ rest₀ sum voice rest = rest
 
-struck-requires : tie.Need-struck-requires Inv-loop μ-loop
-struck-requires c κs = search needs
+settings-requires : tie.Need-settings-requires Inv-loop μ-loop
+settings-requires c κs = search needs
+
+new-requires : tie.Need-new-requires Inv-loop μ-loop
+new-requires c κs = search needs
+
+strike-requires : tie.Need-strike-requires Inv-loop μ-loop
+strike-requires c κs = search needs
 
 last-requires : tie.Need-last-requires Inv-loop μ-loop
 last-requires c κs = search needs
@@ -52,26 +60,35 @@ loop-less c = search needs
 
 loop-again : tie.Need-loop-again Inv-loop μ-loop
 loop-again c =
-    let c₃ = c .before .before .before in
-    let c₅ = c₃ .before .before in
-    let a = c₅ .before .before .before .args in
-    let l = c₃ .before .loop in
-    let n = c₅ .last .result in
-    let bank = c₅ .before .before .struck .result .bank in
-    ap₂ (λ (v sum : ℕ). Reading.ofBank (a .kind) (l .rest - 1) n v bank sum) (c .next .ensures)
-    (c .before .wrapping-add-u64 .ensures ∙ ap (Reading.more (l .sum)) (c .before .before .read .ensures))
-    ∙ sym (one-more (a .kind) (l .rest) n (l .voice) bank (l .sum) (c₃ .loop-test .taken))
+    let c₂ = c .before .before in
+    let c₇ = c₂ .before .before .before .before .before in
+    let c₉ = c₇ .before .before in
+    let s = c₉ .before .strike .last in
+    let a = c₉ .before .before .before .before .before .before .before .before .args in
+    let l = c₇ .before .loop in
+    let n = c₉ .last .result in
+    let b = bankOf (arrays (s .0) (s .1 .0) (s .1 .1 .0) (s .1 .1 .1 .0)) in
+    ap₂ (λ (v sum : ℕ). Reading.ofBank (a .kind) (l .rest - 1) n v b sum) (c .next .ensures)
+    (c .before .wrapping-add-u64 .ensures ∙ ap (Reading.more (l .sum)) (c₂ .read .ensures))
+    ∙ sym (one-more (a .kind) (l .rest) n (l .voice) b (l .sum) (c₇ .loop-test .taken))
     ∙ l .inv
 
 returns : tie.Need-returns Inv-loop μ-loop
 returns c =
     let c₂ = c .before .before in
-    let s = c₂ .before .before .struck in
-    let a = c₂ .before .before .before .args in
+    let c₃ = c₂ .before in
+    let c₈ = c₃ .before .before .before .before .before in
+    let s = c₃ .strike .last in
+    let a = c₈ .before .before .args in
     let l = c .before .loop in
-    let e : l .rest ≡ 0 = omega (arith, c .loop-test .left) in
-    subst (λ (n : ℕ). Reading.ofBank (a .kind) n (c₂ .last .result) (l .voice) (s .result .bank) (l .sum) ≡ Reading.ofBank (a .kind) (a .times) (c₂ .last .result) 0 (s .result .bank) 0) e (l .inv)
-    ∙ ap₂ (λ (n : ℕ) (x : Answer). Reading.ofBank (a .kind) (a .times) n 0 (x .bank) 0) (c₂ .last .ensures) (s .ensures)
+    let b = bankOf (arrays (s .0) (s .1 .0) (s .1 .1 .0) (s .1 .1 .1 .0)) in
+    let last = a .voices - 1 in
+    let e : 0 ≡ l .rest = omega (arith, c .loop-test .left) in
+    ap (λ (n : ℕ). Reading.ofBank (a .kind) n (c₂ .last .result) (l .voice) b (l .sum)) e
+    ∙ l .inv
+    ∙ ap₂ (λ (n : ℕ) (b : Bank). Reading.ofBank (a .kind) (a .times) n 0 b 0) (c₂ .last .ensures)
+    (c₃ .strike .ensures .1
+    ∙ ap₂ (λ (p : EnvelopeParams) (t : Timing). Take.repeated 0 (a .notes) last 0 p (new (opening (a .voices) p t) .bank)) (c₈ .before .settings .ensures) (c₈ .new .ensures))
 
 pub worfelli-bank-readings-spec : {M : Type 1} → statement M
 worfelli-bank-readings-spec =
@@ -79,7 +96,9 @@ worfelli-bank-readings-spec =
     (tie.spec
     Inv-loop
     μ-loop
-    struck-requires
+    settings-requires
+    new-requires
+    strike-requires
     last-requires
     loop-holds
     read-requires
