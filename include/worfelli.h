@@ -11,7 +11,7 @@
  * not even with the length 0.
  *
  * Threads. The functions have no state, use no heap and make no system call, so any thread may call
- * them at any time with buffers of its own. They need less than 40 KiB of stack, and of the C library
+ * them at any time with buffers of its own. They need less than 16 KiB of stack, and of the C library
  * memcpy, memmove and memset alone.
  *
  * Floating point. They need IEEE 754's default mode: rounding to nearest, subnormals kept, exceptions
