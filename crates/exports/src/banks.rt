@@ -16,9 +16,13 @@ use bank::IdleReading;
 use bank::LevelReading;
 use bank::ParamsReading;
 use bank::StageReading;
+use memory::BENDS;
 use memory::Bends;
+use memory::CODES;
+use memory::COUNTS;
 use memory::Codes;
 use memory::Counts;
+use memory::FLOATS;
 use memory::Floats;
 use memory::timing_of;
 use settings::EnvelopeParams;
@@ -162,10 +166,10 @@ pub extern "C" fn worfelli_take(
     ensures refusal { λ r. ⌜ r ≡ Take.struck «sample_rate» attack decay sustain voices notes .refusal ⌝ }
     ensures written { λ r. ⌜ now (out .exit) ≡ Take.blocks blocks (Take.repeated kind calls (voices - 1) 0 (Note.settings attack decay sustain) (Take.struck «sample_rate» attack decay sustain voices notes .bank)) (now (out .entry)) ⌝ }
 {
-    let mut f = [0.0f32; 1236];
-    let mut k = [0.0f64; 131];
-    let mut n = [0u64; 192];
-    let mut c = [0u32; 389];
+    let mut f = [0.0f32; FLOATS];
+    let mut k = [0.0f64; BENDS];
+    let mut n = [0u64; COUNTS];
+    let mut c = [0u32; CODES];
     let params = asked::settings(attack, decay, sustain);
     let clock = Timing::new(sample_rate);
     let refusal = strike(&mut f, &mut k, &mut n, &mut c, voices, params, clock, notes);
@@ -256,10 +260,10 @@ pub extern "C" fn worfelli_bank_readings(
 ) -> u64
     ensures { λ r. ⌜ r ≡ Reading.ofBank kind times (voices - 1) 0 (Take.struck «sample_rate» attack decay sustain voices notes .bank) 0 ⌝ }
 {
-    let mut f = [0.0f32; 1236];
-    let mut k = [0.0f64; 131];
-    let mut n = [0u64; 192];
-    let mut c = [0u32; 389];
+    let mut f = [0.0f32; FLOATS];
+    let mut k = [0.0f64; BENDS];
+    let mut n = [0u64; COUNTS];
+    let mut c = [0u32; CODES];
     let params = asked::settings(attack, decay, sustain);
     let clock = Timing::new(sample_rate);
     strike(&mut f, &mut k, &mut n, &mut c, voices, params, clock, notes);

@@ -22,7 +22,7 @@ use Rattle.lane.specs.declared.lanes.Lane.{Lane}
 use Rattle.lane.specs.declared.lanes.Voice.{Voice}
 use Rattle.memory.specs.Spaced.{spaced, puts}
 use Rattle.memory.specs.Memory.{Arrays, arrays, unitOf, unitCode, restartOf, restartCode, flagOf, flagCode, stageOf, stageCode}
-use Rattle.memory.specs.Memory.{columnsAt, leftAt, floatsAt, bendsAt, countsAt, codesAt, voicesAt, timingAt, Sized, TimingPut, VoicesPut}
+use Rattle.memory.specs.Memory.{columnsAt, leftAt, floatsAt, bendsAt, countsAt, codesAt, voicesAt, timingAt, Sized, TimingPut, VoicesPut, bendsLength, codesLength}
 use Rattle.memory.specs.Memory.{paramsOf, laneOf, segmentOf, voiceOf, floatsOf, voiceAt, ifRoom, Same, Stored}
 use Rattle.memory.proofs.Spaced.{length-puts, puts-kept, spaced-stored, spaced-kept}
 
@@ -177,7 +177,7 @@ module _ (m : Arrays) (v : ℕ) (x : Voice) (S : Sized m) (h : v < 64) where
       }
 
 -- The timing, and the number of voices.
-pub timing-put : (t : Timing) (k : List Float) → length k ≡ 131 → TimingPut t k (puts 1 k 0 (t .«sample_rate» ∷ t .tempo ∷ t .scale ∷ []))
+pub timing-put : (t : Timing) (k : List Float) → length k ≡ bendsLength → TimingPut t k (puts 1 k 0 (t .«sample_rate» ∷ t .tempo ∷ t .scale ∷ []))
 timing-put t k l =
     record {
       here =
@@ -188,7 +188,7 @@ timing-put t k l =
       there = λ w. spaced-kept nan 1 3 (t .«sample_rate» ∷ t .tempo ∷ t .scale ∷ []) k 0 1 (3 + 2 * w) 2 refl (λ j p a b e. omega arith);
     }
 
-pub voices-put : (n : ℕ) (c : List ℕ) → length c ≡ 389 → VoicesPut n c (set c 68 n)
+pub voices-put : (n : ℕ) (c : List ℕ) → length c ≡ codesLength → VoicesPut n c (set c 68 n)
 voices-put n c l =
     record {
       here = getD-set-same c 68 n 0 (omega (arith, l));

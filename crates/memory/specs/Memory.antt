@@ -31,6 +31,19 @@ maxVoices = 64
 abbrev pub lanes : ℕ
 lanes = 68
 
+-- The arrays' lengths.
+abbrev pub floatsLength : ℕ
+floatsLength = 1236
+
+abbrev pub bendsLength : ℕ
+bendsLength = 131
+
+abbrev pub countsLength : ℕ
+countsLength = 192
+
+abbrev pub codesLength : ℕ
+codesLength = 389
+
 pub record Arrays : Type 0 where
   pub floats : List Float
   pub bends : List Float
@@ -127,10 +140,10 @@ countOf c = min (voicesAt c) maxVoices
 
 -- The arrays are as long as their types say.
 pub record Sized (m : Arrays) : Type 0 where
-  pub floats : length (m .floats) ≡ 1236
-  pub bends : length (m .bends) ≡ 131
-  pub counts : length (m .counts) ≡ 192
-  pub codes : length (m .codes) ≡ 389
+  pub floats : length (m .floats) ≡ floatsLength
+  pub bends : length (m .bends) ≡ bendsLength
+  pub counts : length (m .counts) ≡ countsLength
+  pub codes : length (m .codes) ≡ codesLength
 
 -- ---- a voice
 

@@ -13,27 +13,35 @@ pub const LANES: usize = 68;
 
 // Five columns, u, r, d, scale and base, so that sixteen lanes are drawn at once; then a record a
 // voice, of its settings and plan.
-pub type Floats = [f32; 1236];
+pub const FLOATS: usize = 1236;
+
+pub type Floats = [f32; FLOATS];
 
 // The timing, then a record a voice, of its bends.
-pub type Bends = [f64; 131];
+pub const BENDS: usize = 131;
+
+pub type Bends = [f64; BENDS];
 
 // A record a voice, of its counts.
-pub type Counts = [u64; 192];
+pub const COUNTS: usize = 192;
+
+pub type Counts = [u64; COUNTS];
 
 // A column of what each segment has left; how many voices there are; then a record a voice, of its
 // segment's length and of codes for what has no number.
-pub type Codes = [u32; 389];
+pub const CODES: usize = 389;
+
+pub type Codes = [u32; CODES];
 
 // These do nothing: an array that is lent on as a slice has told its length.
 fn bends_length(k: &[f64])
-    requires { ⌜ length (now k) ≡ 131 ⌝ }
-    ensures { λ _. ⌜ length (now (k .entry)) ≡ 131 ⌝ }
+    requires { ⌜ length (now k) ≡ Memory.bendsLength ⌝ }
+    ensures { λ _. ⌜ length (now (k .entry)) ≡ Memory.bendsLength ⌝ }
 {}
 
 fn codes_length(c: &[u32])
-    requires { ⌜ length (now c) ≡ 389 ⌝ }
-    ensures { λ _. ⌜ length (now (c .entry)) ≡ 389 ⌝ }
+    requires { ⌜ length (now c) ≡ Memory.codesLength ⌝ }
+    ensures { λ _. ⌜ length (now (c .entry)) ≡ Memory.codesLength ⌝ }
 {}
 
 // How many voices a bank has whose number of voices says `voices`: no more than there is room for.

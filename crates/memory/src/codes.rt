@@ -5,7 +5,7 @@ use settings::Stage;
 use settings::StealRestart;
 use timing::TimeUnit;
 
-pub(crate) fn unit_of(code: u32) -> TimeUnit
+pub fn unit_of(code: u32) -> TimeUnit
     ensures { λ r. ⌜ r ≡ Memory.unitOf code ⌝ }
 {
     if code == 0 {
@@ -14,7 +14,7 @@ pub(crate) fn unit_of(code: u32) -> TimeUnit
     TimeUnit::Tempo
 }
 
-pub(crate) fn unit_code(unit: TimeUnit) -> u32
+pub fn unit_code(unit: TimeUnit) -> u32
     ensures { λ r. ⌜ r ≡ Memory.unitCode unit ⌝ }
 {
     match unit {
@@ -23,7 +23,7 @@ pub(crate) fn unit_code(unit: TimeUnit) -> u32
     }
 }
 
-pub(crate) fn restart_of(code: u32) -> StealRestart
+pub fn restart_of(code: u32) -> StealRestart
     ensures { λ r. ⌜ r ≡ Memory.restartOf code ⌝ }
 {
     if code == 0 {
@@ -32,7 +32,7 @@ pub(crate) fn restart_of(code: u32) -> StealRestart
     StealRestart::StartLevel
 }
 
-pub(crate) fn restart_code(restart: StealRestart) -> u32
+pub fn restart_code(restart: StealRestart) -> u32
     ensures { λ r. ⌜ r ≡ Memory.restartCode restart ⌝ }
 {
     match restart {
@@ -41,7 +41,7 @@ pub(crate) fn restart_code(restart: StealRestart) -> u32
     }
 }
 
-pub(crate) fn flag_of(code: u32) -> bool
+pub fn flag_of(code: u32) -> bool
     ensures { λ r. ⌜ r ≡ Memory.flagOf code ⌝ }
 {
     if code == 0 {
@@ -50,7 +50,7 @@ pub(crate) fn flag_of(code: u32) -> bool
     true
 }
 
-pub(crate) fn flag_code(flag: bool) -> u32
+pub fn flag_code(flag: bool) -> u32
     ensures { λ r. ⌜ r ≡ Memory.flagCode flag ⌝ }
 {
     if flag {
@@ -73,7 +73,7 @@ pub(crate) fn stage_named(code: u32) -> Stage
     }
 }
 
-pub(crate) fn stage_code(stage: Stage) -> u32
+pub fn stage_code(stage: Stage) -> u32
     ensures { λ r. ⌜ r ≡ Memory.stageCode stage ⌝ }
 {
     match stage {

@@ -29,9 +29,13 @@ mod replies;
 ghost use Prim.Native.Nat.{_≤_};
 ghost use lib.ListN.{length};
 use envelope::Envelope;
+use memory::BENDS;
 use memory::Bends;
+use memory::CODES;
+use memory::COUNTS;
 use memory::Codes;
 use memory::Counts;
+use memory::FLOATS;
 use memory::Floats;
 use settings::ACCEPTED;
 use settings::EnvelopeParams;
@@ -115,10 +119,10 @@ fn answered(
 fn main() {
     let mut call = [0u8; 88];
     let mut levels = [0f32; 262144];
-    let mut f = [0f32; 1236];
-    let mut k = [0f64; 131];
-    let mut n = [0u64; 192];
-    let mut c = [0u32; 389];
+    let mut f = [0f32; FLOATS];
+    let mut k = [0f64; BENDS];
+    let mut n = [0u64; COUNTS];
+    let mut c = [0u32; CODES];
     let amp = EnvelopeParams::AMP;
     let timing = Timing::new(0.0);
     bank::open(&mut f, &mut k, &mut n, &mut c, 0, amp, timing);

@@ -11,11 +11,11 @@ use Rattle.numbers.specs.Constants as Constants
 use Rattle.numbers.specs.Constants.{one}
 use Rattle.curve.specs.Segments.{uAfter}
 use Rattle.filled.specs.Filled.{Filled}
-use Rattle.memory.specs.Memory.{lanes, uAt, rAt, dAt, scaleAt, baseAt, columnsAt}
+use Rattle.memory.specs.Memory.{lanes, floatsLength, uAt, rAt, dAt, scaleAt, baseAt, columnsAt}
 
 -- An array is as long as its type says.
 abbrev pub Whole : List Float → Type 0
-Whole f = length f ≡ 1236
+Whole f = length f ≡ floatsLength
 
 -- ---- lanes
 
