@@ -58,7 +58,7 @@ fn show(list: &[u8], out: &mut [u8]) {
         print_refusal(c.refusal, c.at);
         return;
     }
-    player::worfelli_play(list, out);
+    player::play(list, out);
     print_frames(
         out,
         c.frames as usize,

@@ -12,9 +12,13 @@ ghost use Rattle.checking.specs.Deeds as Deeds;
 ghost use Rattle.player.specs.Playing as Playing;
 use events::Event;
 use events::Reading;
+use memory::BENDS;
 use memory::Bends;
+use memory::CODES;
+use memory::COUNTS;
 use memory::Codes;
 use memory::Counts;
+use memory::FLOATS;
 use memory::Floats;
 use settings::ACCEPTED;
 use settings::EnvelopeParams;
@@ -96,14 +100,14 @@ fn apply(
 
 // Plays a list that is accepted: record after record, each into the part of the output that the ones
 // before it left.
-fn play(list: &[u8], out: &mut [u8])
+fn play_records(list: &[u8], out: &mut [u8])
     requires { ⌜ Checks.checked (now list) (length (now out)) .refusal ≡ 0 ⌝ }
     ensures { λ r. ⌜ now (out .exit) ≡ Playing.put (Playing.levelBytes (now (list .entry))) (now (out .entry)) ⌝ }
 {
-    let mut f = [0.0f32; 1236];
-    let mut k = [0.0f64; 131];
-    let mut n = [0u64; 192];
-    let mut c = [0u32; 389];
+    let mut f = [0.0f32; FLOATS];
+    let mut k = [0.0f64; BENDS];
+    let mut n = [0u64; COUNTS];
+    let mut c = [0u32; CODES];
     bank::open(
         &mut f,
         &mut k,
@@ -136,8 +140,7 @@ fn minus(refusal: u32) -> i64
 // Plays a list into `out`, four bytes a level, the lowest first: frame after frame, each of as many
 // levels as the bank has lanes. Answers the frames written, or minus the number of the refusal, which
 // leaves `out` as it was.
-#[no_mangle]
-pub extern "C" fn worfelli_play(list: &[u8], out: &mut [u8]) -> i64
+pub fn play(list: &[u8], out: &mut [u8]) -> i64
     ensures result { λ r. ⌜ r ≡ Playing.result (now (list .entry)) (length (now (out .entry))) ⌝ }
     ensures output { λ r. ⌜ now (out .exit) ≡ Playing.output (now (list .entry)) (now (out .entry)) ⌝ }
 {
@@ -145,14 +148,13 @@ pub extern "C" fn worfelli_play(list: &[u8], out: &mut [u8]) -> i64
     if c.refusal != ACCEPTED {
         return minus(c.refusal);
     }
-    play(list, out);
+    play_records(list, out);
     c.frames as i64
 }
 
 // The first byte of the record for which a list is refused, for an output of so many bytes; the
 // list's length if it is not refused.
-#[no_mangle]
-pub extern "C" fn worfelli_refused_at(list: &[u8], out_len: usize) -> u64
+pub fn refused_at(list: &[u8], out_len: usize) -> u64
     ensures { λ r. ⌜ r ≡ Playing.refusedAt (now (list .entry)) «out_len» ⌝ }
 {
     checking::check(list, out_len).at as u64

@@ -59,9 +59,9 @@ fn word(n: i64) -> u64 {
 
 fn answer(list: &[u8], out: &mut [u8]) {
     fill(out);
-    let result = player::worfelli_play(list, out);
+    let result = player::play(list, out);
     write_word(word(result));
-    write_word(player::worfelli_refused_at(list, out.len()));
+    write_word(player::refused_at(list, out.len()));
     io::write_all(1, out);
 }
 

@@ -19,8 +19,8 @@ print-refusal-requires c κs = search needs
 returns : tie.Need-returns
 returns c = search needs
 
-worfelli-play-requires : tie.Need-worfelli-play-requires
-worfelli-play-requires c κs = search needs
+play-requires : tie.Need-play-requires
+play-requires c κs = search needs
 
 stride-of-requires : tie.Need-stride-of-requires
 stride-of-requires c κs = search needs
@@ -36,7 +36,7 @@ print-frames-requires c κs =
     let m : min (q .result .known .voices) 64 ≡ q .result .known .voices = omega (arith, H .voices) in
     let s : c .stride-of .result ≡ strideOf (q .result .known .voices) = c .stride-of .ensures ∙ ap strideOf m in
     let e = ap (λ (k : ℕ). q .result .frames * k) s in
-    (omega (arith, s, stride-holds (q .result .known .voices) .0), omega (arith, e, H .levels, div-mul-le-self n 4, c₄ .worfelli-play .kept .1 .0))
+    (omega (arith, s, stride-holds (q .result .known .voices) .0), omega (arith, e, H .levels, div-mul-le-self n 4, c₄ .play .kept .1 .0))
 
 same-length : tie.Need-same-length
 same-length c = search needs
@@ -51,7 +51,7 @@ show-spec =
     check-requires
     print-refusal-requires
     returns
-    worfelli-play-requires
+    play-requires
     stride-of-requires
     print-frames-requires
     same-length

@@ -1,148 +1,92 @@
-use mathlib.Core.Path.{sym, ap, _∙_}
-use Prim.Native.Nat.{_<_}
+use mathlib.Core.Path.{_≡_, sym, ap, _∙_, subst}
+use mathlib.Core.List.{List}
+use Prim.Native.Nat.{ℕ, _/_, _^_, _<_}
 use native.Mathlib.Omega.{arith}
+use lib.IntN.{pos, negℤ}
+use lib.ListN.{length}
+use mir.Syntax.{w64}
+use mir.Val.{SFits}
+use mir.ValLaws.{toZ-pos, toZ-ofZ}
+use Rattle.bank.specs.Calls.{ifAccepted}
+use Rattle.checking.specs.declared.Checked.{Checked}
+use Rattle.bank.proofs.Accepted.{if-refused, if-accepted}
+use Rattle.checking.proofs.Passing.{held-frames, checked-held}
+use Rattle.player.proofs.Signs.{negative-fits}
+use Rattle.player.specs.Playing.{levelBytes, put, result, output}
 use borrow.Author.Needs.{needs}
-use lib.Ieee.{ofBits}
-use Rattle.timing.specs.declared.Timing.{Timing}
-use Rattle.settings.specs.Settings.{amp}
-use Rattle.memory.specs.Memory.{arrays}
-use Rattle.bank.specs.Calls.{opening}
-use Rattle.bank.specs.Banks.{bankOf, new}
-use Rattle.player.proofs.Progress.{Played, begun, frames-fit, inside, one-on, no-records, no-record, finished}
 use Rattle.player.proofs.play.Statement.{statement}
 use Rattle.player.proofs.play.Tie as tie
-use Rattle.player.proofs.play.Reads as reads
-use Rattle.player.proofs.play.Lts as lts
-use Rattle.bank.proofs.open.Reads as open-reads
-use Rattle.events.proofs.read.Reads as read-reads
-use Rattle.player.proofs.apply.Reads as apply-reads
-use Rattle.timing.proofs.Timing.new.Reads as new-reads
 
-abbrev Inv-loop : tie.InvT-loop
-Inv-loop list out₀ f₀ k₀ n₀ c₀ at₀ to₀ records₀ out f k n c at to records = Played list out₀ out (bankOf (arrays f k n c)) at to records
+-- The output of an accepted list.
+abbrev after-playing : List ℕ → List ℕ → List ℕ
+after-playing l out = put (levelBytes l) out
 
-abbrev μ-loop : tie.MeasureT-loop
-μ-loop list out₀ f₀ k₀ n₀ c₀ at₀ to₀ records₀ out f k n c at to records = records
+-- An output holds fewer frames than bytes.
+small : (c : tie.After-check) → c .check .result .frames < 2 ^ 63
+small c =
+    let a = c .before .before .before .args in
+    let l = length (a .out .now) in
+    let H = held-frames (l / 4) _ (checked-held (a .list .now) l) in
+    let e = ap (λ (x : Checked). x .frames) (c .check .ensures) in
+    omega (arith, e, H, c .before .before .before .good .1 .0)
 
--- src/lib.rt:33:9
-new-requires : tie.Need-new-requires Inv-loop μ-loop
-new-requires c κs = search needs
+check-requires : tie.Need-check-requires
+check-requires c κs = search needs
 
--- src/lib.rt:26:5
-open-requires : tie.Need-open-requires Inv-loop μ-loop
-open-requires c κs = search needs
+minus-requires : tie.Need-minus-requires
+minus-requires c κs = search needs
 
--- src/lib.rt:38:5
-loop-holds : tie.Need-loop-holds Inv-loop μ-loop
-unfolding ofBits
-loop-holds c =
-    let a = c .before .before .before .before .before .before .before .before .args in
-    begun (a .list .now) (a .out .now) _ (c .«open» .ensures .1 .0 ∙ ap (λ (t : Timing). new (opening 0 amp t) .bank) (c .before .new .ensures)) (c .before .before .before .before .before .before .before .before .pre)
+returns : tie.Need-returns
+unfolding result output
+returns c =
+    let a = c .before .before .before .before .before .before .args in
+    let q = c .before .before .before .check in
+    let d = c .before .if1 .taken in
+    let fits = subst (SFits w64) (sym (c .minus .ensures)) (negative-fits (q .result .refusal) (search needs)) in (
+      toZ-ofZ w64 (c .minus .result) fits
+          ∙ c .minus .ensures
+          ∙ sym (if-refused (q .result .refusal) (pos (q .result .frames)) (negℤ (pos (q .result .refusal))) d)
+          ∙ ap (λ (x : Checked). ifAccepted (x .refusal) (pos (x .frames)) (negℤ (pos (x .refusal)))) (q .ensures),
+      sym (if-refused (q .result .refusal) (after-playing (a .list .now) (a .out .now)) (a .out .now) d)
+          ∙ ap (λ (x : Checked). ifAccepted (x .refusal) (after-playing (a .list .now) (a .out .now)) (a .out .now)) (q .ensures),
+    )
 
--- src/lib.rt:39:9
-sub-records : tie.Need-sub-records Inv-loop μ-loop
-sub-records c = search needs
+play-records-requires : tie.Need-play-records-requires
+play-records-requires c κs =
+    let q = c .before .before .before .check in
+    let z : q .result .refusal ≡ 0 = omega (arith, c .before .if1 .left) in
+    sym (ap (λ (x : Checked). x .refusal) (q .ensures)) ∙ z
 
--- src/lib.rt:40:47
-read-requires : tie.Need-read-requires Inv-loop μ-loop
-read-requires c κs = search needs
+cast-result : tie.Need-cast-result
+cast-result c = record { sfits = small (c .before .before .before .before .before .before .before) }
 
--- src/lib.rt:40:31
-enum-known-event : tie.Need-enum-known-event Inv-loop μ-loop
-enum-known-event c = search needs
-
--- src/lib.rt:41:13
-enum-told : tie.Need-enum-told Inv-loop μ-loop
-enum-told c = search needs
-
--- src/lib.rt:41:13
-same-length : tie.Need-same-length Inv-loop μ-loop
+same-length : tie.Need-same-length
 same-length c = search needs
 
--- src/lib.rt:41:13
-returns : tie.Need-returns Inv-loop μ-loop
-returns c =
-    let l = c .before .before .before .before .loop in
-    let a = c .before .before .before .before .before .before .before .before .before .before .before .before .before .args in
-    finished (a .list .now) (a .out .now) (l .out) _ (l .at) (l .to) (l .records) (l .inv)
-    (no-record (a .list .now) (l .at) (l .records) _ (sym (c .before .before .read .ensures) ∙ c .enum-told .given .1))
-
--- src/lib.rt:44:60
-sub-apply : tie.Need-sub-apply Inv-loop μ-loop
-sub-apply c = c .before .before .before .before .before .before .before .before .before .loop .inv .there
-
--- src/lib.rt:44:60
-part-apply-start : tie.Need-part-apply-start Inv-loop μ-loop
-part-apply-start c = sub-apply c
-
--- src/lib.rt:44:60
-part-apply-end : tie.Need-part-apply-end Inv-loop μ-loop
-part-apply-end c = search needs
-
--- src/lib.rt:44:15
-apply-requires : tie.Need-apply-requires Inv-loop μ-loop
-apply-requires c κs =
-    let l = c .before .before .before .before .before .before .before .before .before .before .loop in
-    let a = c .before .before .before .before .before .before .before .before .before .before .before .before .before .before .before .before .before .before .before .args in
-    let is = sym (c .before .before .before .before .before .before .before .before .read .ensures) ∙ c .before .before .before .before .before .before .event .given .1 in
-    let more : 0 < l .records = c .before .before .before .before .before .before .before .before .before .loop-test .taken in
-    frames-fit (a .list .now) (a .out .now) (l .out) (bankOf (arrays (l .f) (l .k) (l .n) (l .c))) (l .at) (l .to) (l .records) (l .inv) more _ _ is
-
--- src/lib.rt:44:9
-add-to : tie.Need-add-to Inv-loop μ-loop
-add-to c =
-    let l = c .before .before .before .before .before .before .before .before .before .before .before .before .before .loop in
-    let a = c .before .before .before .before .before .before .before .before .before .before .before .before .before .before .before .before .before .before .before .before .before .before .args in
-    let is = sym (c .before .before .before .before .before .before .before .before .before .before .before .read .ensures) ∙ c .before .before .before .before .before .before .before .before .before .event .given .1 in
-    let more : 0 < l .records = c .before .before .before .before .before .before .before .before .before .before .before .before .loop-test .taken in
-    record { fits = omega (arith, inside (a .list .now) (a .out .now) (l .out) (bankOf (arrays (l .f) (l .k) (l .n) (l .c))) (l .at) (l .to) (l .records) (l .inv) more _ _ is, c .before .before .apply .ensures .1 .1, l .inv .long, c .before .before .before .before .before .before .before .before .before .before .before .before .before .before .before .before .before .before .before .before .before .before .good .1 .0) }
-
--- src/lib.rt:38:5
-loop-less : tie.Need-loop-less Inv-loop μ-loop
-loop-less c = search needs
-
--- src/lib.rt:38:5
-loop-again : tie.Need-loop-again Inv-loop μ-loop
-loop-again c =
-    let l = c .before .before .before .before .before .before .before .before .before .before .before .before .before .loop in
-    let a = c .before .before .before .before .before .before .before .before .before .before .before .before .before .before .before .before .before .before .before .before .before .before .args in
-    let is = sym (c .before .before .before .before .before .before .before .before .before .before .before .read .ensures) ∙ c .before .before .before .before .before .before .before .before .before .event .given .1 in
-    let more : 0 < l .records = c .before .before .before .before .before .before .before .before .before .before .before .before .loop-test .taken in
-    let e = c .before .before .apply .ensures in
-    one-on (a .list .now) (a .out .now) (l .out) (bankOf (arrays (l .f) (l .k) (l .n) (l .c))) (l .at) (l .to) (l .records) (l .inv) more _ _ is _ _ _ (e .0) (e .1 .0) (e .1 .1)
-
--- src/lib.rt:18:1
-same-length-2 : tie.Need-same-length-2 Inv-loop μ-loop
-same-length-2 c = search needs
-
--- src/lib.rt:18:1
-returns-2 : tie.Need-returns-2 Inv-loop μ-loop
+returns-2 : tie.Need-returns-2
+unfolding result output
 returns-2 c =
-    let l = c .before .loop in
-    let a = c .before .before .before .before .before .before .before .before .before .before .args in
-    finished (a .list .now) (a .out .now) (l .out) _ (l .at) (l .to) (l .records) (l .inv) (no-records (a .list .now) (l .at) (l .records) (omega (arith, c .loop-test .left)))
+    let c₇ = c .before .before .before .before .before .before .before in
+    let a = c₇ .before .before .before .args in
+    let q = c₇ .check in
+    let z : q .result .refusal ≡ 0 = omega (arith, c .before .before .before .before .before .if1 .left) in
+    let x = after-playing (a .list .now) (a .out .now) in (
+      toZ-pos w64 (q .result .frames) (small c₇)
+          ∙ sym (if-accepted (q .result .refusal) (pos (q .result .frames)) (negℤ (pos (q .result .refusal))) z)
+          ∙ ap (λ (x : Checked). ifAccepted (x .refusal) (pos (x .frames)) (negℤ (pos (x .refusal)))) (q .ensures),
+      c .before .before .before .play-records .ensures
+          ∙ sym (if-accepted (q .result .refusal) x (a .out .now) z)
+          ∙ ap (λ (y : Checked). ifAccepted (y .refusal) x (a .out .now)) (q .ensures),
+    )
 
 pub play-spec : {M : Type 1} → statement M
 play-spec =
     tie.close
     (tie.spec
-    Inv-loop
-    μ-loop
-    new-requires
-    open-requires
-    loop-holds
-    sub-records
-    read-requires
-    enum-known-event
-    enum-told
-    same-length
+    check-requires
+    minus-requires
     returns
-    sub-apply
-    part-apply-start
-    part-apply-end
-    apply-requires
-    add-to
-    loop-less
-    loop-again
-    same-length-2
+    play-records-requires
+    cast-result
+    same-length
     returns-2)
