@@ -7,29 +7,22 @@
 #include <string.h>
 
 #include "../../include/worfelli.h"
+#include "reasons.h"
 
-/* This program's own: the player has no limit on a list's length or an output's. */
-#define MAX_LIST ((size_t)1 << 20)
-#define DEFAULT_LEVELS ((size_t)1 << 20)
+/* What is first made room for, in bytes; most lists are shorter. */
+#define FIRST_ROOM ((size_t)1 << 16)
+
+/* The most levels whose bytes a size_t counts. */
+#define LONGEST (SIZE_MAX / 4)
 
 enum { PLAYED = 0, REFUSED = 1, FAILED = 2 };
 
-static const char *reason(int64_t refusal)
-{
-    switch (refusal) {
-    case WORFELLI_TOO_MANY_VOICES: return "over 64 voices";
-    case WORFELLI_NO_SUCH_VOICE: return "no such voice";
-    case WORFELLI_TIME_OVER: return "a time over 1048576";
-    case WORFELLI_RATE_OVER: return "a sample rate over 1048576";
-    case WORFELLI_CUT_SHORT: return "the bytes end before the record does";
-    case WORFELLI_UNKNOWN_TAG: return "an unknown tag";
-    case WORFELLI_WRONG_LENGTH: return "a wrong length";
-    case WORFELLI_MISPLACED_OPEN: return "a list is opened once, by its first record";
-    case WORFELLI_UNNAMED_CODE: return "a code byte with no meaning";
-    case WORFELLI_OUTPUT_TOO_SHORT: return "more levels than the output holds";
-    default: return "an unknown refusal";
-    }
-}
+struct list {
+    const char *name;
+    uint8_t *bytes;
+    size_t len;
+    size_t room;
+};
 
 static int failed(const char *what, const char *why)
 {
@@ -37,7 +30,6 @@ static int failed(const char *what, const char *why)
     return FAILED;
 }
 
-/* A count of levels whose bytes fit a size_t. */
 static int parse_levels(const char *text, size_t *levels)
 {
     unsigned long long n;
@@ -45,23 +37,71 @@ static int parse_levels(const char *text, size_t *levels)
         return 0;
     n = strtoull(text, NULL, 10);
     *levels = (size_t)n;
-    return n <= SIZE_MAX / 4;
+    return n <= LONGEST;
 }
 
-static int read_list(const char *name, uint8_t *list, size_t *len)
+/* Twice the room, which fits a size_t: memory of half its range is never given. False if there is none. */
+static int grow(struct list *list)
+{
+    const size_t room = list->room == 0 ? FIRST_ROOM : 2 * list->room;
+    uint8_t *bytes = realloc(list->bytes, room);
+    if (bytes == NULL)
+        return 0;
+    list->bytes = bytes;
+    list->room = room;
+    return 1;
+}
+
+static int read_list(struct list *list)
 {
     int status = PLAYED;
-    FILE *file = fopen(name, "rb");
+    size_t got = 1;
+    FILE *file = fopen(list->name, "rb");
     if (file == NULL)
-        return failed(name, strerror(errno));
-    /* One byte more than a list may have tells one that is too large. */
-    *len = fread(list, 1, MAX_LIST + 1, file);
+        return failed(list->name, strerror(errno));
+    while (got > 0) {
+        if (list->len == list->room && !grow(list)) {
+            status = failed(list->name, "no memory for so long a list");
+            break;
+        }
+        got = fread(list->bytes + list->len, 1, list->room - list->len, file);
+        list->len += got;
+    }
     if (ferror(file))
-        status = failed(name, strerror(errno));
-    else if (*len > MAX_LIST)
-        status = failed(name, "too large: this program takes lists of up to 1048576 bytes");
+        status = failed(list->name, strerror(errno));
     fclose(file);
     return status;
+}
+
+/* How many levels the list needs. Answers 0, or what refuses it however long the output is; 11 if a size_t
+ * cannot count the bytes. */
+static uint32_t measure(const struct list *list, size_t *levels)
+{
+    size_t voices = 0;
+    uint64_t frames = 0;
+    const uint32_t refusal = worfelli_list_info(list->bytes, list->len, &voices, &frames);
+    *levels = WORFELLI_OUTPUT_BYTES(voices, frames) / 4;
+    return refusal;
+}
+
+/* Says what refuses the list when its output holds so many levels. */
+static int refused(const struct list *list, uint32_t refusal, size_t levels)
+{
+    size_t needed;
+    fprintf(stderr, "host: %s: refused %lu at byte %llu: %s", list->name, (unsigned long)refusal,
+            (unsigned long long)worfelli_refused_at(list->bytes, list->len, 4 * levels), reason(refusal));
+    /* With another fault after this one, no number of levels would do. */
+    if (refusal == WORFELLI_OUTPUT_TOO_SHORT && measure(list, &needed) == 0)
+        fprintf(stderr, ": %zu are needed, LEVELS is %zu", needed, levels);
+    fputc('\n', stderr);
+    return REFUSED;
+}
+
+/* The output's size where LEVELS is not given. */
+static int choose_levels(const struct list *list, size_t *levels)
+{
+    const uint32_t refusal = measure(list, levels);
+    return refusal == 0 ? PLAYED : refused(list, refusal, LONGEST);
 }
 
 static int write_levels(const char *name, const uint8_t *out, size_t len)
@@ -76,44 +116,46 @@ static int write_levels(const char *name, const uint8_t *out, size_t len)
     return wrote && closed ? PLAYED : failed(name, strerror(errno));
 }
 
-static int play(const char *from, const char *to, uint8_t *list, uint8_t *out, size_t out_len)
+static int play(const struct list *list, const char *to, size_t levels)
 {
-    size_t len = 0;
+    int status;
     int64_t frames;
-    int status = read_list(from, list, &len);
-    if (status != PLAYED)
-        return status;
-    /* A program starts in the floating-point mode that the player needs. */
-    frames = worfelli_play(list, len, out, out_len);
-    if (frames < 0) {
-        fprintf(stderr, "host: %s: refused %lld at byte %llu: %s\n", from, (long long)-frames,
-                (unsigned long long)worfelli_refused_at(list, len, out_len), reason(-frames));
-        return REFUSED;
+    /* The player wants a pointer for an output of 0 levels too. */
+    uint8_t *out = malloc(levels > 0 ? 4 * levels : 1);
+    if (out == NULL) {
+        fprintf(stderr, "host: %s: no memory for the levels: %zu bytes are needed\n", list->name, 4 * levels);
+        return FAILED;
     }
-    /* An accepted list begins with its open record, whose fourth byte is the voice count. */
-    return write_levels(to, out, WORFELLI_OUTPUT_BYTES(list[3], frames));
+    /* A program starts in the floating-point mode that the player needs. */
+    frames = worfelli_play(list->bytes, list->len, out, 4 * levels);
+    if (frames < 0)
+        status = refused(list, (uint32_t)-frames, levels);
+    else /* An accepted list begins with its open record, whose fourth byte is the voice count. */
+        status = write_levels(to, out, WORFELLI_OUTPUT_BYTES(list->bytes[3], frames));
+    free(out);
+    return status;
 }
 
 int main(int argc, char **argv)
 {
-    size_t levels = DEFAULT_LEVELS;
-    uint8_t *list, *out;
+    struct list list = { NULL, NULL, 0, 0 };
+    size_t levels = 0;
     int status;
     if (argc < 3 || argc > 4) {
-        fprintf(stderr, "usage: host LIST OUT [LEVELS], OUT - for standard output, "
-                        "LEVELS the output's size (%zu)\n", levels);
+        fputs("usage: host LIST OUT [LEVELS], OUT - for standard output, LEVELS the output's size (what LIST "
+              "needs)\n", stderr);
         return FAILED;
     }
-    if (argc == 4 && !parse_levels(argv[3], &levels))
-        return failed(argv[3], "not a number of levels");
-    list = malloc(MAX_LIST + 1);
-    /* The player wants a pointer for an output of 0 levels too. */
-    out = malloc(levels > 0 ? 4 * levels : 1);
-    if (list == NULL || out == NULL)
-        status = failed("list and levels", strerror(errno));
-    else
-        status = play(argv[1], argv[2], list, out, 4 * levels);
-    free(list);
-    free(out);
+    if (argc == 4 && !parse_levels(argv[3], &levels)) {
+        fprintf(stderr, "host: %s: expected LEVELS, a number up to %zu\n", argv[3], LONGEST);
+        return FAILED;
+    }
+    list.name = argv[1];
+    status = read_list(&list);
+    if (status == PLAYED && argc == 3)
+        status = choose_levels(&list, &levels);
+    if (status == PLAYED)
+        status = play(&list, argv[2], levels);
+    free(list.bytes);
     return status;
 }

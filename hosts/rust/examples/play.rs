@@ -25,7 +25,7 @@ fn main() -> Result<(), Refused> {
     list.push(Event::Frames(8 * FIVE_MS));
     list.extend((0..VOICES).flat_map(|voice| [Event::Release(voice), Event::Frames(FIVE_MS)]));
 
-    let mut levels = vec![0.0; 11 * FIVE_MS as usize * stride(VOICES)];
+    let mut levels = vec![0.0; list.levels()?];
     let frames = play_levels(list.as_bytes(), &mut levels)?;
 
     println!("{frames} frames\n frame  voice 0  voice 1  voice 2");

@@ -1,8 +1,42 @@
-//! Worfelli's player for Rust hosts: plays an event list into the levels of a bank of envelopes.
+//! Worfelli's envelopes for Rust hosts: a live bank, called note by note and block by block, and whole
+//! event lists, played by one call.
 //!
-//! A [`List`] is a whole take: a bank of up to 64 voices is opened, then come notes, changes of settings
-//! and frames, in order. docs/FORMAT.md in the repository says what each record means, byte by byte.
-//! [`play_levels`] writes the levels as floats, [`play`] as bytes.
+//! # A live bank
+//!
+//! An [`EnvelopeBank`] has up to 64 voices, each with its own settings. Notes start and end between blocks
+//! of frames, and a block can be of any length:
+//!
+//! ```
+//! use worfelli::{EnvelopeBank, EnvelopeParams, Timing, Trigger};
+//!
+//! let params = EnvelopeParams { attack: 10.0, release: 120.0, ..EnvelopeParams::AMP };
+//! let mut bank = EnvelopeBank::new(16, params, Timing::new(48_000.0))?;
+//! let stride = bank.stride();
+//! let mut block = vec![0.0; 64 * stride];
+//!
+//! // Key 3 is held for ten blocks.
+//! bank.trigger(3, Trigger::New)?;
+//! let mut blocks = 0;
+//! while !bank.is_idle(3)? {
+//!     if blocks == 10 {
+//!         bank.release(3)?;
+//!     }
+//!     bank.process(&mut block)?;
+//!     for frame in block.chunks_exact(stride) {
+//!         assert!((0.0..=1.0).contains(&frame[3]));
+//!     }
+//!     blocks += 1;
+//! }
+//! // The release is 5760 frames, which is 90 blocks.
+//! assert_eq!(blocks, 100);
+//! # Ok::<(), worfelli::Refusal>(())
+//! ```
+//!
+//! # Event lists
+//!
+//! A [`List`] is a whole take: a bank is opened, then come notes, changes of settings and frames, in
+//! order. docs/FORMAT.md in the repository says what each record means, byte by byte. [`play_levels`]
+//! writes the levels as floats, [`play`] as bytes.
 //!
 //! ```
 //! use worfelli::{EnvelopeParams, Event, List, Timing, Trigger, play_levels, stride};
@@ -15,7 +49,7 @@
 //!     Event::Release(1),
 //!     Event::Frames(20),
 //! ]);
-//! let mut levels = [0.0; 120 * stride(2)];
+//! let mut levels = vec![0.0; list.levels()?];
 //! let frames = play_levels(list.as_bytes(), &mut levels)?;
 //! assert_eq!(frames, 120);
 //!
@@ -40,10 +74,10 @@
 //!
 //! # Threads and floating point
 //!
-//! The functions that play and check keep nothing between calls, allocate nothing and make no system
-//! call, so that an audio thread may call them. They give the same bits in whatever floating-point mode
-//! the thread runs, with flush-to-zero set too: they set IEEE 754's default mode for the time of the call
-//! and leave the thread the mode that it had.
+//! A bank's calls, and the functions that play and check lists, keep nothing but what stands in the bank,
+//! allocate nothing and make no system call, so that an audio thread may call them. They give the same
+//! bits in whatever floating-point mode the thread runs, with flush-to-zero set too: they set IEEE 754's
+//! default mode for the time of the call and leave the thread the mode that it had.
 
 #![deny(missing_docs)]
 
@@ -52,29 +86,38 @@
     target_os = "linux",
     target_pointer_width = "64"
 )))]
-compile_error!("Worfelli's player is a library for x86-64 Linux");
+compile_error!("Worfelli's library is for x86-64 Linux");
 
+mod bank;
 mod list;
 mod raw;
+mod record;
 mod refusal;
 mod settings;
+mod stage;
 
-pub use list::{Event, List};
+pub use bank::{EnvelopeBank, OtherVersion};
+pub use list::{Event, Events, List};
 pub use refusal::{Refusal, Refused};
 pub use settings::{EnvelopeParams, StealRestart, TimeUnit, Timing, Trigger};
+pub use stage::Stage;
 
 /// The most voices that a bank can have.
 pub const MAX_VOICES: u8 = 64;
 
 /// Levels in a frame of so many voices: their count rounded up to a multiple of 16, and at least 16.
 ///
-/// An accepted list has its voice count in byte 3.
+/// A bank tells its own by [`EnvelopeBank::stride`].
 #[must_use]
 pub const fn stride(voices: u8) -> usize {
+    stride_of(voices as usize)
+}
+
+const fn stride_of(voices: usize) -> usize {
     if voices == 0 {
         16
     } else {
-        (voices as usize).next_multiple_of(16)
+        voices.next_multiple_of(16)
     }
 }
 
@@ -83,6 +126,9 @@ pub const fn stride(voices: u8) -> usize {
 /// The whole list is checked first. Frame after frame is then written from the first byte on,
 /// [`stride`] levels each: the voices in their order, then +0 in the spare lanes. Bytes past the frames
 /// are untouched. An output of n bytes holds n / 4 levels, rounded down.
+///
+/// [`List::frames`] says how many frames there will be, and [`List::levels`] how many levels: four times as
+/// many bytes hold the list. A list that is only bytes is made one by [`List::from_bytes`].
 ///
 /// # Errors
 ///
@@ -102,6 +148,9 @@ pub fn play(list: &[u8], out: &mut [u8]) -> Result<usize, Refused> {
 
 /// Plays a list into floats: the levels that [`play`] writes, `out[k * stride + v]` being voice v's in
 /// frame k.
+///
+/// [`List::levels`] says how long an output has to be: the list's [frames](List::frames) times the
+/// [`stride`] of its [voices](List::voices).
 ///
 /// # Errors
 ///

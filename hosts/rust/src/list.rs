@@ -1,6 +1,8 @@
 //! Events, and the list that they make.
 
-use crate::{EnvelopeParams, Timing, Trigger};
+use std::iter::FusedIterator;
+
+use crate::{EnvelopeParams, Refusal, Refused, Timing, Trigger, raw, record, stride_of};
 
 /// A record of a list. Only [`Frames`](Self::Frames) takes time; the others act from the next frame on.
 /// Later versions may have more.
@@ -53,8 +55,9 @@ pub enum Event {
 
 /// An event list: the bytes of docs/FORMAT.md, one record after the other.
 ///
-/// Numbers are written as they are, bit by bit. Whether they make sense is for the player to say.
-/// Adding events allocates, so build lists off the audio thread.
+/// It is always a whole number of records, each with its tag, its length and codes that have a meaning.
+/// Numbers are kept as they are, bit by bit. Whether they make sense, and the records together, is for
+/// the player to say. Adding events allocates, so build lists off the audio thread.
 #[derive(Clone, Debug, Default, PartialEq, Eq, Hash)]
 pub struct List {
     bytes: Vec<u8>,
@@ -67,75 +70,106 @@ impl List {
         Self { bytes: Vec::new() }
     }
 
+    /// The list of these bytes. No bytes are a list of no event.
+    ///
+    /// ```
+    /// use worfelli::{Event, List, Refusal};
+    ///
+    /// let list = List::from_bytes([6, 1, 0, 3])?;
+    /// assert_eq!(list.iter().next(), Some(Event::Release(3)));
+    ///
+    /// let refused = List::from_bytes([6, 1, 0, 3, 6, 1]).unwrap_err();
+    /// assert_eq!((refused.refusal, refused.at), (Refusal::CutShort, 4));
+    /// # Ok::<(), worfelli::Refused>(())
+    /// ```
+    ///
+    /// # Errors
+    ///
+    /// The first record that is none, by 6, 7, 8 or 10 in the order of docs/FORMAT.md. The other
+    /// refusals are the player's alone: [`frames`](Self::frames) tells them without playing.
+    pub fn from_bytes(bytes: impl Into<Vec<u8>>) -> Result<Self, Refused> {
+        let bytes = bytes.into();
+        let mut rest = bytes.as_slice();
+        while !rest.is_empty() {
+            let (_, after) = record::read(rest).map_err(|refusal| Refused {
+                refusal,
+                at: bytes.len() - rest.len(),
+            })?;
+            rest = after;
+        }
+        Ok(Self { bytes })
+    }
+
     /// Its bytes, to be played.
     #[must_use]
     pub fn as_bytes(&self) -> &[u8] {
         &self.bytes
     }
 
+    /// Its events in their order.
+    #[must_use]
+    pub fn iter(&self) -> Events<'_> {
+        Events { rest: &self.bytes }
+    }
+
     /// Adds an event at the end.
     pub fn push(&mut self, event: Event) {
-        match event {
-            Event::Open {
-                voices,
-                timing,
-                params,
-            } => {
-                self.record(1, 72, &[voices]);
-                self.timing(timing);
-                self.settings(&params);
-            }
-            Event::Settings { voice, params } => {
-                self.record(2, 48, &[voice]);
-                self.settings(&params);
-            }
-            Event::SettingsForAll(params) => {
-                self.record(3, 47, &[]);
-                self.settings(&params);
-            }
-            Event::Timing(timing) => {
-                self.record(4, 24, &[]);
-                self.timing(timing);
-            }
-            Event::Trigger { voice, trigger } => self.record(5, 2, &[voice, trigger as u8]),
-            Event::Release(voice) => self.record(6, 1, &[voice]),
-            Event::Reset(voice) => self.record(7, 1, &[voice]),
-            Event::Join { voice, from } => self.record(8, 2, &[voice, from]),
-            Event::Frames(count) => self.record(9, 4, &count.to_le_bytes()),
-        }
+        record::write(&mut self.bytes, event);
     }
 
-    /// A record's head, with the length of the whole body, and the body's first bytes.
-    fn record(&mut self, tag: u8, length: u8, body: &[u8]) {
-        self.bytes.extend([tag, length, 0]);
-        self.bytes.extend(body);
+    /// How many frames it has.
+    ///
+    /// # Errors
+    ///
+    /// What refuses the list however long the output is, so by all but 11, and where.
+    ///
+    /// # Panics
+    ///
+    /// As [`play`](crate::play).
+    pub fn frames(&self) -> Result<u64, Refused> {
+        self.info().map(|(_, frames)| frames)
     }
 
-    fn timing(&mut self, timing: Timing) {
-        let numbers = [timing.sample_rate, timing.tempo, timing.scale];
-        self.bytes
-            .extend(numbers.map(f64::to_le_bytes).as_flattened());
+    /// How many voices its bank has.
+    ///
+    /// # Errors
+    ///
+    /// As [`frames`](Self::frames).
+    ///
+    /// # Panics
+    ///
+    /// As [`play`](crate::play).
+    pub fn voices(&self) -> Result<usize, Refused> {
+        self.info().map(|(voices, _)| voices)
     }
 
-    fn settings(&mut self, params: &EnvelopeParams) {
-        let numbers = [
-            params.delay,
-            params.attack,
-            params.hold,
-            params.decay,
-            params.sustain,
-            params.release,
-            params.attack_curve,
-            params.decay_curve,
-            params.release_curve,
-            params.start,
-            params.end,
-        ];
-        self.bytes.push(params.unit as u8);
-        self.bytes
-            .extend(numbers.map(f32::to_le_bytes).as_flattened());
-        self.bytes
-            .extend([params.legato_inverted.into(), params.steal_restart as u8]);
+    /// How many levels it writes, which is what an output has to hold: its frames times their
+    /// [stride](crate::stride), or `usize::MAX` where that is more.
+    ///
+    /// # Errors
+    ///
+    /// As [`frames`](Self::frames).
+    ///
+    /// # Panics
+    ///
+    /// As [`play`](crate::play).
+    pub fn levels(&self) -> Result<usize, Refused> {
+        let (voices, frames) = self.info()?;
+        let frames = usize::try_from(frames).unwrap_or(usize::MAX);
+        Ok(frames.saturating_mul(stride_of(voices)))
+    }
+
+    fn info(&self) -> Result<(usize, u64), Refused> {
+        raw::list_info(&self.bytes).map_err(|number| Refused {
+            refusal: Refusal::numbered(number.into()),
+            at: raw::refused_at(&self.bytes, usize::MAX),
+        })
+    }
+}
+
+impl AsRef<[u8]> for List {
+    fn as_ref(&self) -> &[u8] {
+        &self.bytes
     }
 }
 
@@ -158,3 +192,33 @@ impl<const N: usize> From<[Event; N]> for List {
         events.into_iter().collect()
     }
 }
+
+impl<'a> IntoIterator for &'a List {
+    type Item = Event;
+    type IntoIter = Events<'a>;
+
+    fn into_iter(self) -> Events<'a> {
+        self.iter()
+    }
+}
+
+/// The events of a [`List`] in their order, by [`List::iter`].
+#[derive(Clone, Debug)]
+pub struct Events<'a> {
+    rest: &'a [u8],
+}
+
+impl Iterator for Events<'_> {
+    type Item = Event;
+
+    fn next(&mut self) -> Option<Event> {
+        if self.rest.is_empty() {
+            return None;
+        }
+        let (event, rest) = record::read(self.rest).expect("a list is whole records");
+        self.rest = rest;
+        Some(event)
+    }
+}
+
+impl FusedIterator for Events<'_> {}

@@ -1,11 +1,11 @@
-//! What a list is refused by, and where.
+//! What a bank's call or a list is refused by, and where in the list.
 
 use std::error::Error;
 use std::fmt;
 
-/// What a list can be refused by. Later versions may know more.
+/// What a bank's call or a list can be refused by. Later versions may know more.
 ///
-/// 5 is not among them: it refuses a call that no list makes.
+/// A call is refused by 1 to 5, a list by all of them but 5.
 #[derive(Clone, Copy, Debug, PartialEq, Eq, Hash)]
 #[non_exhaustive]
 pub enum Refusal {
@@ -17,6 +17,8 @@ pub enum Refusal {
     TimeOver = 3,
     /// 4: a sample rate over 1,048,576.
     RateOver = 4,
+    /// 5: an output that is not a whole number of frames.
+    NotWholeFrames = 5,
     /// 6: the bytes end before the record does.
     CutShort = 6,
     /// 7: a tag that no record has.
@@ -32,11 +34,12 @@ pub enum Refusal {
 }
 
 impl Refusal {
-    const ALL: [Self; 10] = [
+    const ALL: [Self; 11] = [
         Self::TooManyVoices,
         Self::NoSuchVoice,
         Self::TimeOver,
         Self::RateOver,
+        Self::NotWholeFrames,
         Self::CutShort,
         Self::UnknownTag,
         Self::WrongLength,
@@ -52,13 +55,26 @@ impl Refusal {
     }
 
     /// The refusal of a number that the library answered.
+    #[cold]
     pub(crate) fn numbered(number: u64) -> Self {
         let known = Self::ALL
             .into_iter()
             .find(|refusal| u64::from(refusal.number()) == number);
         known.unwrap_or_else(|| {
-            panic!("libplayer.a refuses by {number}, which this version of worfelli does not know")
+            panic!(
+                "libworfelli.a refuses by {number}, which this version of worfelli does not know"
+            )
         })
+    }
+
+    /// The answer of a bank's call, whose number is 0 if it was accepted.
+    #[inline]
+    pub(crate) fn unless_accepted(number: u32) -> Result<(), Self> {
+        if number == 0 {
+            Ok(())
+        } else {
+            Err(Self::numbered(number.into()))
+        }
     }
 }
 
@@ -69,15 +85,18 @@ impl fmt::Display for Refusal {
             Self::NoSuchVoice => "no such voice",
             Self::TimeOver => "a time over 1048576",
             Self::RateOver => "a sample rate over 1048576",
+            Self::NotWholeFrames => "levels that are no whole number of frames",
             Self::CutShort => "the bytes end before the record does",
             Self::UnknownTag => "an unknown tag",
             Self::WrongLength => "a wrong length",
             Self::MisplacedOpen => "a list is opened once, by its first record",
-            Self::UnnamedCode => "a code byte with no meaning",
+            Self::UnnamedCode => "a code with no meaning",
             Self::OutputTooShort => "more levels than the output holds",
         })
     }
 }
+
+impl Error for Refusal {}
 
 /// A list is refused: by what, and where.
 #[derive(Clone, Copy, Debug, PartialEq, Eq, Hash)]
@@ -109,8 +128,8 @@ mod tests {
     }
 
     #[test]
-    #[should_panic(expected = "refuses by 5, which")]
+    #[should_panic(expected = "refuses by 12, which")]
     fn unknown_number() {
-        let _ = Refusal::numbered(5);
+        let _ = Refusal::numbered(12);
     }
 }

@@ -1,5 +1,7 @@
 //! The settings and the timing of envelopes, with the names of the Rust library that Worfelli comes
-//! from. Numbers outside a range are not refused here: the player limits or refuses them.
+//! from. Numbers outside a range are not refused here: the bank limits or refuses them.
+//!
+//! Lists and the library have a code for each unit, restart and kind of trigger, which is its number here.
 
 /// What the times of an envelope count.
 #[derive(Clone, Copy, Debug, PartialEq, Eq, Hash)]
@@ -10,6 +12,16 @@ pub enum TimeUnit {
     Tempo = 1,
 }
 
+impl TimeUnit {
+    const fn coded(code: u32) -> Option<Self> {
+        match code {
+            0 => Some(Self::Milliseconds),
+            1 => Some(Self::Tempo),
+            _ => None,
+        }
+    }
+}
+
 /// The level at which a sounding voice restarts.
 #[derive(Clone, Copy, Debug, PartialEq, Eq, Hash)]
 pub enum StealRestart {
@@ -17,6 +29,16 @@ pub enum StealRestart {
     CurrentLevel = 0,
     /// The [start](EnvelopeParams::start) level.
     StartLevel = 1,
+}
+
+impl StealRestart {
+    const fn coded(code: u32) -> Option<Self> {
+        match code {
+            0 => Some(Self::CurrentLevel),
+            1 => Some(Self::StartLevel),
+            _ => None,
+        }
+    }
 }
 
 /// How a note starts. An idle voice begins at its start level with each of them.
@@ -29,6 +51,17 @@ pub enum Trigger {
     /// A sounding voice goes on as it is. If [inverted](EnvelopeParams::legato_inverted), this is a
     /// retrigger.
     Legato = 2,
+}
+
+impl Trigger {
+    pub(crate) const fn coded(code: u8) -> Option<Self> {
+        match code {
+            0 => Some(Self::New),
+            1 => Some(Self::Retrigger),
+            2 => Some(Self::Legato),
+            _ => None,
+        }
+    }
 }
 
 /// The settings of a voice's envelope.
@@ -96,6 +129,56 @@ impl EnvelopeParams {
         params.steal_restart = StealRestart::StartLevel;
         params
     };
+
+    /// The numbers, in the order that lists and the library have.
+    pub(crate) const fn numbers(&self) -> [f32; 11] {
+        [
+            self.delay,
+            self.attack,
+            self.hold,
+            self.decay,
+            self.sustain,
+            self.release,
+            self.attack_curve,
+            self.decay_curve,
+            self.release_curve,
+            self.start,
+            self.end,
+        ]
+    }
+
+    /// The codes of unit, legato and restart.
+    pub(crate) const fn codes(&self) -> [u32; 3] {
+        [
+            self.unit as u32,
+            self.legato_inverted as u32,
+            self.steal_restart as u32,
+        ]
+    }
+
+    /// The settings of these [numbers](Self::numbers) and [codes](Self::codes), if each code has a meaning.
+    pub(crate) fn of_parts(numbers: [f32; 11], [unit, legato, restart]: [u32; 3]) -> Option<Self> {
+        Some(Self {
+            unit: TimeUnit::coded(unit)?,
+            delay: numbers[0],
+            attack: numbers[1],
+            hold: numbers[2],
+            decay: numbers[3],
+            sustain: numbers[4],
+            release: numbers[5],
+            attack_curve: numbers[6],
+            decay_curve: numbers[7],
+            release_curve: numbers[8],
+            start: numbers[9],
+            end: numbers[10],
+            legato_inverted: match legato {
+                0 => false,
+                1 => true,
+                _ => return None,
+            },
+            steal_restart: StealRestart::coded(restart)?,
+        })
+    }
 }
 
 impl Default for EnvelopeParams {
