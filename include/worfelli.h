@@ -244,7 +244,7 @@ static inline uint32_t worfelli_bank_reset(worfelli_bank *bank, size_t voice)
     return worfelli_live_reset(bank->floats, bank->bends, bank->counts, bank->codes, voice);
 }
 
-/* A voice becomes a copy of `from`, settings included: the two move together from here. */
+/* A voice becomes a copy of `from` as that stands now, settings included. */
 static inline uint32_t worfelli_bank_join(worfelli_bank *bank, size_t voice, size_t from)
 {
     return worfelli_live_join(bank->floats, bank->bends, bank->counts, bank->codes, voice, from);

@@ -155,7 +155,7 @@ impl EnvelopeBank {
         self.change(|f, k, n, c| raw::worfelli_live_reset(f, k, n, c, voice))
     }
 
-    /// A voice becomes a copy of `from`, settings included: the two move together from here.
+    /// A voice becomes a copy of `from` as that stands now, settings included.
     ///
     /// # Errors
     ///
