@@ -1,20 +1,26 @@
-//! Prepares the two sides of the comparison: derives the Rust's envelope from
-//! its sources, and links the static libraries made from the Rattle.
+//! Prepares the sides of the comparison: derives the Rust's envelope from its
+//! sources, compiles the C functions of the header, and links the static
+//! libraries made from the Rattle.
 //!
 //! `WORFELLI_RUST` names the folder of the Rust's sources and `WORFELLI_LIB`
 //! the folder of the libraries; a relative name is read from this package's
-//! folder. Whatever stands in the way is said in one line.
+//! folder (the crate worfelli reads the second one too, from its own). `CC` and
+//! `AR` name the C compiler and the archiver, which are else `cc` and `ar`.
+//! Whatever stands in the way is said in one line.
 
 use std::env;
 use std::path::{Path, PathBuf};
 
+#[path = "build/c.rs"]
+mod c;
 #[path = "build/derive.rs"]
 mod derive;
 #[path = "build/table.rs"]
 mod table;
 
-/// The libraries: `lib` and `.a` around each name.
-const LIBRARIES: [&str; 2] = ["exports", "player"];
+/// The libraries: `lib` and `.a` around each name. The second is linked by the
+/// crate worfelli.
+const LIBRARIES: [&str; 2] = ["exports", "worfelli"];
 
 fn main() {
     // An error told to cargo stops the build by itself; a failing exit status
@@ -27,11 +33,17 @@ fn main() {
 fn prepare() -> Result<(), String> {
     // The script's own files are watched one by one, since naming any file
     // ends cargo's habit of watching the whole package.
-    for own in ["build.rs", "build/derive.rs", "build/table.rs"] {
+    for own in [
+        "build.rs",
+        "build/c.rs",
+        "build/derive.rs",
+        "build/table.rs",
+    ] {
         println!("cargo::rerun-if-changed={own}");
     }
     let out = PathBuf::from(env::var_os("OUT_DIR").ok_or("OUT_DIR is not set")?);
     derive::derive(&folder("WORFELLI_RUST", "../../shared/docs/src")?, &out)?;
+    c::compile(&out)?;
     link(&folder("WORFELLI_LIB", "../target/staticlib")?)
 }
 
@@ -59,8 +71,6 @@ fn link(folder: &Path) -> Result<(), String> {
         ));
     }
     println!("cargo::rustc-link-search=native={}", folder.display());
-    for name in LIBRARIES {
-        println!("cargo::rustc-link-lib=static={name}");
-    }
+    println!("cargo::rustc-link-lib=static={}", LIBRARIES[0]);
     Ok(())
 }

@@ -70,6 +70,17 @@ pub enum Kind {
     OtherTiming = 11,
 }
 
+impl Kind {
+    /// Whether each call is for all voices.
+    #[must_use]
+    pub fn is_for_all(self) -> bool {
+        matches!(
+            self,
+            Self::AllSettings | Self::AllOtherSettings | Self::Timing | Self::OtherTiming
+        )
+    }
+}
+
 /// Every kind of calls of a bank.
 pub const KINDS: [Kind; 12] = [
     Kind::Trigger,

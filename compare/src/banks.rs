@@ -8,7 +8,7 @@
 //! - [`lists`]: lists of calls with both answers, and with their blocks cut;
 //!   [`fixed`] and [`random`] make them.
 //! - [`comparison`] and [`coverage`]: the program's answers held against both,
-//!   and what the lists reached.
+//!   and what the lists reached; [`words`]: what each word of a reading is.
 
 pub mod calls;
 pub mod comparison;
@@ -19,3 +19,4 @@ pub mod lists;
 pub mod random;
 pub mod reference;
 pub mod refusals;
+pub mod words;

@@ -192,9 +192,10 @@ pub fn timing_bytes(timing: &Timing) -> [u8; 24] {
     bytes
 }
 
-/// Settings as they travel. The codes are numbers as they came, since a reply
-/// may hold any.
-#[derive(Clone, Copy, Debug)]
+/// Settings as they travel, and as C has them. The codes are numbers as they
+/// came, since a reply may hold any.
+#[repr(C)]
+#[derive(Clone, Copy, Debug, PartialEq)]
 pub struct Settings {
     pub unit: u32,
     pub numbers: [f32; 11],

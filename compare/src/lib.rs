@@ -9,7 +9,8 @@
 //!   bank, asked; [`stored`]: what it is run on where there is no Rust.
 //! - [`calls`], with the bytes of both directions, and [`comparison`]: the
 //!   single envelope's calls and answers; [`banks`]: the same of the bank;
-//!   [`players`]: event lists and the player of them.
+//!   [`live`]: banks as hosts hold them; [`players`]: event lists and the player
+//!   of them.
 //! - [`reference`](mod@reference): the Rust's envelope, with what document 01 adds to it.
 //! - [`random`], [`floats`], [`times`] and [`settings`]: the inputs; [`fixed`]
 //!   and [`random_lists`]: lists of calls, with the Rust's answers in [`lists`].
@@ -19,8 +20,9 @@
 //!   what it reached, and what it answers.
 //!
 //! `cargo run --release --bin numbers` compares the number helpers, `--bin
-//! envelopes` the single envelope, `--bin banks` the bank, `--bin players` the
-//! player, and `--bin bench` measures all of them.
+//! envelopes` the single envelope, `--bin banks` the bank, `--bin live` the bank
+//! as C and Rust hosts call it, `--bin players` the player, and `--bin bench`
+//! measures all of them.
 
 pub mod arguments;
 pub mod asked;
@@ -32,6 +34,7 @@ pub mod fixed;
 pub mod floats;
 pub mod library;
 pub mod lists;
+pub mod live;
 pub mod players;
 pub mod random;
 pub mod random_lists;

@@ -1,7 +1,8 @@
 //! What the static libraries made from the Rattle export, as safe functions,
 //! and a list of the exports by group, so that a comparison can tell which of
 //! them it left out. A linker sees names and no types, so `tests/exports.rs`
-//! holds the lists against the Rattle's own text.
+//! holds the lists against the Rattle's own text. Live banks are called through
+//! the header instead, in `live`.
 
 use crate::asked::{Opening, Query, SingleKind, Sound, Take};
 
@@ -130,6 +131,13 @@ mod lent {
         -> i64;
 
         pub fn worfelli_refused_at(list: *const u8, list_len: usize, out_len: usize) -> u64;
+
+        pub fn worfelli_list_info(
+            list: *const u8,
+            list_len: usize,
+            voices: &mut usize,
+            frames: &mut u64,
+        ) -> u32;
     }
 }
 
@@ -273,8 +281,8 @@ pub fn single_readings(sound: Sound, query: Query, times: u32) -> u64 {
     )
 }
 
-/// The exports of the player's library.
-pub const PLAYER: &[Export] = &[
+/// The exports about event lists, of the library for hosts.
+pub const LISTS: &[Export] = &[
     Export {
         name: "play",
         symbol: "worfelli_play",
@@ -286,6 +294,12 @@ pub const PLAYER: &[Export] = &[
         symbol: "worfelli_refused_at",
         arguments: &["&[u8]", "usize"],
         result: "u64",
+    },
+    Export {
+        name: "list_info",
+        symbol: "worfelli_list_info",
+        arguments: &["&[u8]", "&mut usize", "&mut u64"],
+        result: "u32",
     },
 ];
 
@@ -302,6 +316,13 @@ pub fn play(list: &[u8], out: &mut [u8]) -> i64 {
 pub fn refused_at(list: &[u8], out_len: usize) -> u64 {
     // SAFETY: it reads the list and nothing else.
     unsafe { lent::worfelli_refused_at(list.as_ptr(), list.len(), out_len) }
+}
+
+/// The number that refuses a list however long the output is, or 0 and the
+/// list's voices and frames.
+pub fn list_info(list: &[u8], voices: &mut usize, frames: &mut u64) -> u32 {
+    // SAFETY: as for `refused_at`, and it writes the two that it is lent.
+    unsafe { lent::worfelli_list_info(list.as_ptr(), list.len(), voices, frames) }
 }
 
 /// The two calls of the player as C has them, for who calls them on a stack of

@@ -121,6 +121,8 @@ inputs!(a: A, b: B, c: C, d: D, e: E);
 
 /// The cases of one subject.
 pub struct Tally {
+    /// Whose answers are compared, where there are several.
+    side: &'static str,
     name: &'static str,
     cases: u64,
     differences: u64,
@@ -129,7 +131,14 @@ pub struct Tally {
 impl Tally {
     #[must_use]
     pub fn new(name: &'static str) -> Self {
+        Self::of("", name)
+    }
+
+    /// The subject of one side, which is printed with it.
+    #[must_use]
+    pub fn of(side: &'static str, name: &'static str) -> Self {
         Self {
+            side,
             name,
             cases: 0,
             differences: 0,
@@ -155,7 +164,7 @@ impl Tally {
         self.differences += 1;
         if self.differences <= SHOWN {
             let (ours, rust) = (hex::<T>(ours.compared()), hex::<T>(rust.compared()));
-            let (name, inputs) = (self.name, inputs.shown());
+            let (name, inputs) = (self.shown(), inputs.shown());
             println!("{name}({inputs}): ours {ours}, Rust {rust}");
         }
     }
@@ -165,6 +174,14 @@ impl Tally {
         self.name
     }
 
+    /// Its name with its side.
+    fn shown(&self) -> String {
+        match self.side {
+            "" => self.name.into(),
+            side => format!("{side}: {}", self.name),
+        }
+    }
+
     /// Whether there were cases, and no difference.
     #[must_use]
     pub fn is_good(&self) -> bool {
@@ -172,12 +189,10 @@ impl Tally {
     }
 
     fn line(&self) -> String {
+        let (name, differences) = (self.shown(), self.differences);
         match self.cases {
-            0 => format!("{}: no case was run", self.name),
-            cases => format!(
-                "{}: {cases} cases, {} different",
-                self.name, self.differences
-            ),
+            0 => format!("{name}: no case was run"),
+            cases => format!("{name}: {cases} cases, {differences} different"),
         }
     }
 }
@@ -208,6 +223,8 @@ mod tests {
         let tally = Tally::new("narrow");
         assert!(!tally.is_good());
         assert_eq!(tally.line(), "narrow: no case was run");
+        let tally = Tally::of("C", "stage");
+        assert_eq!(tally.line(), "C: stage: no case was run");
     }
 
     #[test]

@@ -12,13 +12,17 @@ pub const VOICES: usize = 64;
 /// Plays `take` on the Rust's bank; each block goes to `out`.
 #[inline(never)]
 pub fn take(take: Take, out: &mut [f32]) {
-    let Opening { sound, voices, .. } = take.opening;
     let mut bank = struck(take.opening);
-    for voice in turns(voices, take.calls) {
-        call(&mut bank, sound, take.kind, voice);
-    }
+    calls(&mut bank, take.opening.sound, take.kind, take.calls);
     for _ in 0..take.blocks {
         bank.process(out);
+    }
+}
+
+/// So many calls of a kind on the voices in turn.
+pub fn calls(bank: &mut EnvelopeBank, sound: Sound, kind: Kind, calls: u32) {
+    for voice in turns(bank.voices(), calls) {
+        call(bank, sound, kind, voice);
     }
 }
 
@@ -26,14 +30,19 @@ pub fn take(take: Take, out: &mut [f32]) {
 #[inline(never)]
 #[must_use]
 pub fn readings(opening: Opening, query: Query, times: u32) -> u64 {
-    let bank = struck(opening);
-    turns(opening.voices, times).fold(0, |sum: u64, voice| {
-        sum.wrapping_add(read(&bank, query, voice))
+    sum(&struck(opening), query, times)
+}
+
+/// The same of a bank that is there.
+#[must_use]
+pub fn sum(bank: &EnvelopeBank, query: Query, times: u32) -> u64 {
+    turns(bank.voices(), times).fold(0, |sum: u64, voice| {
+        sum.wrapping_add(read(bank, query, voice))
     })
 }
 
 /// So many voices in turn, as the library goes over them.
-fn turns(voices: usize, times: u32) -> impl Iterator<Item = usize> {
+pub fn turns(voices: usize, times: u32) -> impl Iterator<Item = usize> {
     let mut next = 0;
     (0..times).map(move |_| {
         let voice = next;
@@ -42,7 +51,9 @@ fn turns(voices: usize, times: u32) -> impl Iterator<Item = usize> {
     })
 }
 
-fn struck(opening: Opening) -> EnvelopeBank {
+/// A fresh bank, and its notes.
+#[must_use]
+pub fn struck(opening: Opening) -> EnvelopeBank {
     let Opening {
         sound,
         voices,

@@ -2,7 +2,7 @@
 //! what is wrong, byte for byte as 01 has it. The list and the answers are
 //! written out here, apart from what the comparison makes of them.
 
-use compare::library::{play, refused_at};
+use compare::library::{list_info, play, refused_at};
 
 /// Voices, rate 1000, tempo 120, scale 1.
 const OPEN: [u8; 28] = [
@@ -58,6 +58,14 @@ fn plays_the_sample() {
     assert_eq!(play(&list, &mut out), 10);
     assert_eq!(out, expected);
     assert_eq!(refused_at(&list, 645), 87);
+    assert_eq!(info(&list), (0, 1, 10));
+}
+
+/// The number, voices and frames, which are 7 before.
+fn info(list: &[u8]) -> (u32, usize, u64) {
+    let (mut voices, mut frames) = (7, 7);
+    let refusal = list_info(list, &mut voices, &mut frames);
+    (refusal, voices, frames)
 }
 
 #[test]
@@ -85,6 +93,9 @@ fn refuses_by_number_and_place() {
         assert_eq!(play(&list, &mut out), result, "{list:?}");
         assert_eq!(out, [7; 640], "{list:?}");
         assert_eq!(refused_at(&list, 640), place, "{list:?}");
+        // Whether the output is long enough takes no part in this.
+        let number = result.unsigned_abs() as u32;
+        assert!(number == 11 || info(&list) == (number, 7, 7), "{list:?}");
     }
     assert_eq!(play(&sample(), &mut [7; 639]), -11);
 }

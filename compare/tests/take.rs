@@ -1,7 +1,10 @@
-//! What the measurements ask of the library's bank and envelope is what they
-//! get of the Rust's, bit by bit.
+//! What the measurements ask of the library's bank and envelope, and of live
+//! banks, is what they get of the Rust's, bit by bit.
 
 use compare::asked::{KINDS, Opening, QUERIES, SINGLE_KINDS, SINGLE_QUERIES, Sound, Take};
+use compare::live::functions::LiveBank;
+use compare::live::measured::Measured;
+use compare::rust::envelope::EnvelopeBank;
 use compare::{library, singles, takes};
 
 const SOUND: Sound = Sound {
@@ -58,6 +61,34 @@ fn readings_of_a_bank() {
             let rust = takes::readings(opening, query, times);
             assert_eq!(ours, rust, "{query:?} of {opening:?}, {times} times");
         }
+    }
+}
+
+/// All kinds of calls with blocks after each, all readings, and new openings.
+fn asked_of<B: Measured>(opening: Opening) -> (Vec<u32>, Vec<u64>) {
+    let mut bank = B::struck(opening);
+    let mut out = vec![2.0; 3 * opening.voices.div_ceil(16) * 16];
+    let (mut levels, mut sums) = (Vec::new(), Vec::new());
+    for (calls, kind) in (40..).zip(KINDS) {
+        bank.calls(opening.sound, kind, calls);
+        bank.blocks(&mut out, 2);
+        levels.extend(bits(&out));
+        sums.extend(QUERIES.map(|query| bank.readings(query, 70)));
+    }
+    bank.opens(opening, 2);
+    bank.blocks(&mut out, 1);
+    levels.extend(bits(&out));
+    (levels, sums)
+}
+
+#[test]
+fn live_banks() {
+    for (voices, notes) in [(64, 64), (1, 1), (17, 9)] {
+        let opening = opening(voices, notes);
+        let rust = asked_of::<EnvelopeBank>(opening);
+        assert_eq!(asked_of::<LiveBank>(opening), rust, "C, {voices} voices");
+        let through_crate = asked_of::<worfelli::EnvelopeBank>(opening);
+        assert_eq!(through_crate, rust, "the crate, {voices} voices");
     }
 }
 

@@ -3,44 +3,14 @@
 //! those of longer ones.
 
 use std::io::Read;
-use std::iter;
 
 use crate::banks::calls::READING;
 use crate::banks::coverage::Coverage;
 use crate::banks::lists::{List, Step};
-use crate::calls::FIELDS;
+use crate::banks::words::{self, SUBJECTS, word_at, words};
 use crate::reference::ACCEPTED;
 use crate::replay::{Compares, ending};
 use crate::report::{Inputs, Tally};
-
-/// The words of a reading after the settings': the subject of each, and its
-/// name within that.
-const WORDS: [(&str, &str); 16] = [
-    ("stage", ""),
-    ("is_idle", ""),
-    ("level", ""),
-    ("tail", "lower word"),
-    ("tail", "higher word"),
-    ("lead", "lower word"),
-    ("lead", "higher word"),
-    ("stage", "refusal"),
-    ("is_idle", "refusal"),
-    ("level", "refusal"),
-    ("tail", "refusal"),
-    ("lead", "refusal"),
-    ("voices", "lower word"),
-    ("voices", "higher word"),
-    ("stride", "lower word"),
-    ("stride", "higher word"),
-];
-
-/// The subjects of readings.
-const SUBJECTS: [&str; 8] = [
-    "settings", "stage", "is_idle", "level", "tail", "lead", "voices", "stride",
-];
-
-/// Where the words of lead stand in a reading.
-const LEAD: usize = 20;
 
 /// Where a case stands: the list, the call by its number from 0, and which
 /// part of the answer, if there are several.
@@ -69,8 +39,7 @@ impl Inputs for Place<'_> {
     fn shown(self) -> String {
         let part = match self.part {
             Part::Whole => String::new(),
-            Part::Word(subject, "") => format!(", {subject}"),
-            Part::Word(subject, word) => format!(", {subject} {word}"),
+            Part::Word(subject, word) => format!(", {}", words::named(subject, word)),
             Part::Level(number) => format!(", level {number}"),
         };
         let call = self.step.call.shown();
@@ -151,19 +120,13 @@ impl Comparison {
             if is_cut {
                 self.cut_readings.check(place, ours, bank);
             } else {
-                self.subject(subject).check(place, ours, bank);
+                self.readings[words::place(subject)].check(place, ours, bank);
                 self.readings_by_history.check(place, ours, history);
             }
         }
         if let (Some(run_on), false) = (rust.run_on, is_cut) {
-            let lead = u64::from(word_at(ours, LEAD)) | u64::from(word_at(ours, LEAD + 1)) << 32;
-            self.run_on.check(place, lead, run_on);
+            self.run_on.check(place, words::lead(ours), run_on);
         }
-    }
-
-    fn subject(&mut self, name: &str) -> &mut Tally {
-        let at = SUBJECTS.iter().position(|subject| *subject == name);
-        &mut self.readings[at.unwrap_or(0)]
     }
 
     /// The output of a process, which stands at `first` among the list's.
@@ -185,17 +148,6 @@ impl Comparison {
             }
         }
     }
-}
-
-/// The subject and name of each word of a reading.
-fn words() -> impl Iterator<Item = (&'static str, &'static str)> {
-    let settings = FIELDS.into_iter().map(|field| ("settings", field));
-    let refusal = iter::once(("settings", "refusal"));
-    refusal.chain(settings).chain(WORDS)
-}
-
-fn word_at(bytes: &[u8; READING], at: usize) -> u32 {
-    u32::from_le_bytes(std::array::from_fn(|byte| bytes[4 * at + byte]))
 }
 
 impl Compares for Comparison {

@@ -36,11 +36,28 @@ const STRAIGHT: Sound = Sound {
 };
 
 /// A bank of 64 voices, a note on each.
-const SOUNDING: Opening = Opening {
+pub const SOUNDING: Opening = Opening {
     sound: BENT,
     voices: VOICES,
     notes: VOICES as u32,
 };
+
+/// How rows name the kinds of calls, and how many calls each is.
+#[rustfmt::skip]
+pub const KINDS: [(&str, Kind, u32); 12] = [
+    ("`trigger`, a new note", Kind::Trigger, 1),
+    ("`trigger`, a retrigger", Kind::Retrigger, 1),
+    ("`trigger`, a legato note", Kind::Legato, 1),
+    ("a new note, then `release`, each", Kind::Release, 2),
+    ("`reset`", Kind::Reset, 1),
+    ("`join` of its neighbour", Kind::Join, 1),
+    ("`set_params`, those that it has", Kind::Settings, 1),
+    ("`set_params`, another sustain", Kind::OtherSettings, 2),
+    ("`set_all_params`, those that they have", Kind::AllSettings, 1),
+    ("`set_all_params`, another sustain", Kind::AllOtherSettings, 2),
+    ("`set_timing`, the one that it has", Kind::Timing, 1),
+    ("`set_timing`, another time scale", Kind::OtherTiming, 2),
+];
 
 /// The levels of a row.
 pub fn stride(voices: usize) -> usize {
@@ -118,28 +135,7 @@ fn fills(blocks: usize, len: usize) -> f64 {
 fn calls() {
     println!("\n| A call on one of 64 voices, or on all | Ours, ns | Rust, ns | Ratio |");
     println!("|---|---:|---:|---:|");
-    for (about, kind, each) in [
-        ("`trigger`, a new note", Kind::Trigger, 1),
-        ("`trigger`, a retrigger", Kind::Retrigger, 1),
-        ("`trigger`, a legato note", Kind::Legato, 1),
-        ("a new note, then `release`, each", Kind::Release, 2),
-        ("`reset`", Kind::Reset, 1),
-        ("`join` of its neighbour", Kind::Join, 1),
-        ("`set_params`, those that it has", Kind::Settings, 1),
-        ("`set_params`, another sustain", Kind::OtherSettings, 2),
-        (
-            "`set_all_params`, those that they have",
-            Kind::AllSettings,
-            1,
-        ),
-        (
-            "`set_all_params`, another sustain",
-            Kind::AllOtherSettings,
-            2,
-        ),
-        ("`set_timing`, the one that it has", Kind::Timing, 1),
-        ("`set_timing`, another time scale", Kind::OtherTiming, 2),
-    ] {
+    for (about, kind, each) in KINDS {
         print_row(about, called(SOUNDING, kind, f64::from(each)));
     }
 }
@@ -161,11 +157,7 @@ fn planning() {
 
 /// The nanoseconds of calls of a kind, over `parts` of each.
 fn called(opening: Opening, kind: Kind, parts: f64) -> Pair {
-    let on_all = matches!(
-        kind,
-        Kind::AllSettings | Kind::AllOtherSettings | Kind::Timing | Kind::OtherTiming
-    );
-    let calls = if on_all { 1 << 8 } else { 1 << 12 };
+    let calls = if kind.is_for_all() { 1 << 8 } else { 1 << 12 };
     let take = |calls| Take {
         opening,
         kind,

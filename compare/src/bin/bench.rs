@@ -1,7 +1,7 @@
 //! Measures the number helpers, notes, calls and readings of the single envelope
-//! and of the bank, its blocks, how they grow, and event lists of the player
-//! beside their Rust counterparts, and prints nanoseconds as Markdown tables. It
-//! asserts nothing about time.
+//! and of the bank, its blocks, how they grow, the bank as hosts call it, and
+//! event lists of the player beside their Rust counterparts, and prints
+//! nanoseconds as Markdown tables. It asserts nothing about time.
 
 #[path = "../bench/banks.rs"]
 mod banks;
@@ -11,6 +11,8 @@ mod envelopes;
 mod growth;
 #[path = "../bench/helpers.rs"]
 mod helpers;
+#[path = "../bench/live.rs"]
+mod live;
 #[path = "../bench/notes.rs"]
 mod notes;
 #[path = "../bench/players.rs"]
@@ -26,12 +28,12 @@ use compare::simd;
 
 const HELP: &str = "\
 Measures the number helpers, notes, blocks, calls and readings of an envelope
-and of a bank, how they grow, and event lists of the Rattle libraries and of the
-Rust on the same inputs, in turns, and prints the median nanoseconds per call,
-per frame of a note, per level of a block, and per level, list, record and byte
-of event lists, as Markdown tables; and how far down the stack the player's calls
-go. A name prints that part alone: helpers, notes, envelopes, banks, growth,
-players.";
+and of a bank, how they grow, those of a live bank over C and over the crate of
+hosts/rust, and event lists of the Rattle libraries and of the Rust on the same
+inputs, in turns, and prints the median nanoseconds per call, per frame of a
+note, per level of a block, and per level, list, record and byte of event lists,
+as Markdown tables; and how far down the stack the player's calls go. A name
+prints that part alone: helpers, notes, envelopes, banks, growth, live, players.";
 
 /// Nanoseconds of ours and of the Rust's.
 type Pair = (f64, f64);
@@ -40,12 +42,13 @@ const SEED: u64 = 0x776f_7266_656c_6c69;
 const REPETITIONS: usize = 101;
 
 /// The parts, in the order of printing.
-const PARTS: [(&str, fn()); 6] = [
+const PARTS: [(&str, fn()); 7] = [
     ("helpers", helpers::print),
     ("notes", notes::print),
     ("envelopes", envelopes::print),
     ("banks", banks::print),
     ("growth", growth::print),
+    ("live", live::print),
     ("players", players::print),
 ];
 
@@ -65,7 +68,7 @@ fn main() -> ExitCode {
     for (name, print) in PARTS {
         // The helpers and the single envelope have no group of lanes to stand
         // still.
-        if matches!(name, "banks" | "growth" | "players") {
+        if matches!(name, "banks" | "growth" | "live" | "players") {
             simd::use_still_shortcut();
         }
         if asked.is_none_or(|asked| asked == name) {

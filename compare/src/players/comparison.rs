@@ -79,6 +79,7 @@ struct Sides {
 pub struct Comparison {
     result: Tally,
     place: Tally,
+    info: Tally,
     written: Tally,
     kept: Tally,
     beside: Tally,
@@ -109,6 +110,7 @@ impl Comparison {
         Ok(Self {
             result: Tally::new("result"),
             place: Tally::new("place"),
+            info: Tally::new("voices and frames"),
             written: Tally::new("bytes written"),
             kept: Tally::new("bytes kept"),
             beside: Tally::new("bytes beside the output"),
@@ -135,6 +137,7 @@ impl Comparison {
         self.coverage.add(case, damages);
         let frames = self.expect(case);
         self.places(case);
+        self.infos(case);
         let result = self.played(case);
         self.result
             .check(place_of(case, Part::Whole), result, frames);
@@ -191,6 +194,25 @@ impl Comparison {
         }
     }
 
+    /// The voices and frames, or what refuses the list whatever the output, and
+    /// then both as they were.
+    fn infos(&mut self, case: &Case) {
+        const BEFORE: (u64, u64) = (7777, 7_777_777);
+        let (list, _) = self.sides.list.part(Side::End, case.list.len());
+        let (mut voices, mut frames) = (BEFORE.0 as usize, BEFORE.1);
+        let ours = stops::at(&case.name, || {
+            library::list_info(list, &mut voices, &mut frames)
+        });
+        let (refusal, rust) = match check(&case.list, usize::MAX) {
+            Ok(frames) => (0, (opened(&case.list), frames)),
+            Err(refused) => (refused.number, BEFORE),
+        };
+        let place = place_of(case, Part::Whole);
+        self.info.check(place, ours, refusal);
+        self.info.check(place, voices as u64, rust.0);
+        self.info.check(place, frames, rust.1);
+    }
+
     /// The output's bytes, and those beside it.
     fn output(&mut self, case: &Case, frames: i64) {
         let Sides {
@@ -239,6 +261,7 @@ impl Comparison {
         vec![
             self.result,
             self.place,
+            self.info,
             self.written,
             self.kept,
             self.beside,
@@ -276,9 +299,13 @@ fn next_to(side: Side, beside: &mut [u8]) -> &mut [u8] {
 /// The bytes that a result of so many frames has written.
 fn written(list: &[u8], frames: i64) -> usize {
     let frames = usize::try_from(frames).unwrap_or(0);
+    frames * stride(opened(list)) as usize * LEVEL
+}
+
+/// The voices that a list opens, as its first record has them.
+fn opened(list: &[u8]) -> u64 {
     let voices = records(list).next().and_then(|(_, body)| body.first());
-    let stride = voices.map_or(16, |voices| stride((*voices).into()));
-    frames * stride as usize * LEVEL
+    voices.map_or(0, |voices| u64::from(*voices))
 }
 
 /// The bytes that the frames need of all records up to the first that is

@@ -90,6 +90,19 @@ impl Guarded {
     }
 }
 
+/// The floats that these bytes are.
+///
+/// # Panics
+///
+/// They are not whole floats, or begin at an odd place.
+pub fn floats(bytes: &mut [u8]) -> &mut [f32] {
+    // SAFETY: any four bytes are a float.
+    match unsafe { bytes.align_to_mut() } {
+        ([], floats, []) => floats,
+        _ => panic!("these bytes are no floats"),
+    }
+}
+
 impl Drop for Guarded {
     fn drop(&mut self) {
         // SAFETY: it is the mapping that `new` made, and nobody has it any more.
