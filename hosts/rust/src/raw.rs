@@ -193,9 +193,6 @@ unsafe extern "C" {
 /// exceptions masked.
 const DEFAULT_MODE: u32 = 0x1f80;
 
-/// What has been raised in a mode, which is no part of it: MXCSR's flags of exceptions.
-const RAISED: u32 = 0x3f;
-
 impl State {
     /// All zeros, for the library to open.
     ///
@@ -292,33 +289,8 @@ pub(crate) fn bytes_of(levels: &mut [f32]) -> &mut [u8] {
     unsafe { std::slice::from_raw_parts_mut(levels.as_mut_ptr().cast(), len) }
 }
 
-/// Calls in IEEE 754's default mode, whatever the thread's is, and leaves the thread its own.
-///
-/// Most threads are in that mode. To see it takes less time than a reading, and to set it more.
-#[inline]
-pub(crate) fn in_default_mode<T: Default, F: FnMut() -> T>(mut call: F) -> T {
-    if mode() & !RAISED == DEFAULT_MODE {
-        call()
-    } else {
-        in_another_mode(call)
-    }
-}
-
-/// The register MXCSR.
-#[inline]
-fn mode() -> u32 {
-    let mut mode = 0;
-    // SAFETY: the four bytes that it writes are the variable's.
-    unsafe {
-        asm!("stmxcsr [{}]", in(reg) &raw mut mode, options(nostack, preserves_flags));
-    }
-    mode
-}
-
-/// Calls in the default mode, and restores the thread's.
-#[cold]
-#[inline(never)]
-fn in_another_mode<T: Default, F: FnMut() -> T>(call: F) -> T {
+/// Calls in IEEE 754's default mode, whatever the thread's is, and restores the thread's.
+pub(crate) fn in_default_mode<T: Default, F: FnMut() -> T>(call: F) -> T {
     struct Job<T, F> {
         call: F,
         answer: T,

@@ -16,7 +16,6 @@ const ROUND_UP: u32 = 0x4000;
 const ROUND_TO_ZERO: u32 = 0x6000;
 /// A flag that earlier arithmetic left.
 const DIVIDED_BY_ZERO: u32 = 0x0004;
-const FLAGS: u32 = 0x003f;
 
 const MODES: [u32; 8] = [
     DEFAULT,
@@ -61,13 +60,12 @@ fn set_mode(mode: u32) {
     unsafe { asm!("ldmxcsr [{}]", in(reg) &raw const mode, options(nostack)) };
 }
 
-/// What `call` answers in a mode, and the mode that it leaves, which flags are no part of: in the default
-/// mode arithmetic raises them, as any does.
+/// What `call` answers in a mode, and the mode that it leaves.
 fn under<T>(other: u32, call: impl FnOnce() -> T) -> (T, u32) {
     let before = mode();
     set_mode(other);
     let answer = call();
-    let after = mode() & !FLAGS | other & FLAGS;
+    let after = mode();
     set_mode(before);
     (answer, after)
 }
