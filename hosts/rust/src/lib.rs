@@ -23,7 +23,9 @@
 //!     }
 //!     bank.process(&mut block)?;
 //!     for frame in block.chunks_exact(stride) {
-//!         assert!((0.0..=1.0).contains(&frame[3]));
+//!         // What the pipe of key 3 is multiplied by; voice 0 is idle.
+//!         let _pipe = frame[3];
+//!         assert_eq!(frame[0], 0.0);
 //!     }
 //!     blocks += 1;
 //! }
