@@ -2,52 +2,35 @@
  *
  * An input is two bytes that choose the output's length, then the list. The list and the output stand
  * at the end of their pages, then at the beginning, with inaccessible pages on both sides, and the player
- * runs on a stack of 40 KiB between such pages: so what the player reads or writes elsewhere is caught
+ * runs on the stack that the header grants (pages.h): so what the player reads or writes elsewhere is caught
  * though it is not instrumented itself. On a broken promise it prints one line and aborts.
  *
  * With GUIDE (the script `guide`), the player's own code is linked a second time, compiled otherwise and
  * instrumented. It shows the fuzzer the way, and has to write the same bytes. */
-#define _GNU_SOURCE
 #include <inttypes.h>
-#include <signal.h>
-#include <stdarg.h>
 #include <stdio.h>
 #include <stdlib.h>
 #include <string.h>
-#include <sys/mman.h>
-#include <ucontext.h>
-#include <xmmintrin.h>
 
 #include "../include/worfelli.h"
 #include "check.h"
+#include "pages.h"
 
 #define MOST_LIST ((size_t)1 << 15)  /* of an input; with its frames cut, it can be twice as long */
 #define MOST_OUT ((size_t)1 << 21)   /* 32,768 frames of up to 16 voices: a stage over 16,384 has two segments */
-#define STACK ((size_t)40 << 10)
-#define PAGE ((size_t)4096)
-#define FENCE ((size_t)1 << 20)
 #define BESIDE ((size_t)64)          /* bytes next to an output that are looked at as well */
-#define CONTROL (~0x3fu)             /* of MXCSR: a function may set its status, and keeps the rest */
-#define USUAL 0x1f80u                /* the mode that the player needs */
 
 #ifdef GUIDE
 int64_t guide_play(const uint8_t *list, size_t list_len, uint8_t *out, size_t out_len);
 uint64_t guide_refused_at(const uint8_t *list, size_t list_len, size_t out_len);
+uint32_t guide_list_info(const uint8_t *list, size_t list_len, size_t *voices, uint64_t *frames);
 #endif
 
 typedef int64_t player(const uint8_t *list, size_t list_len, uint8_t *out, size_t out_len);
 typedef uint64_t place(const uint8_t *list, size_t list_len, size_t out_len);
+typedef uint32_t info(const uint8_t *list, size_t list_len, size_t *voices, uint64_t *frames);
 
-/* Where in its pages a buffer stands. */
-enum side { AT_END, AT_BEGINNING };
-
-/* Pages between inaccessible ones. */
-struct pages {
-    uint8_t *first;
-    size_t size;
-};
-
-static struct pages list_pages, out_pages, stack_pages;
+static struct pages list_pages, out_pages;
 
 /* What an output holds before: two patterns that differ in each byte, so that one of them tells a byte
  * that was not written from one that was. */
@@ -66,55 +49,6 @@ static struct {
     struct range usual, other;
 } seen;
 
-static void broken(const char *format, ...) __attribute__((format(printf, 1, 2), noreturn));
-
-static void broken(const char *format, ...)
-{
-    va_list arguments;
-    va_start(arguments, format);
-    fputs("BROKEN: ", stderr);
-    vfprintf(stderr, format, arguments);
-    fputc('\n', stderr);
-    va_end(arguments);
-    abort();
-}
-
-static int within(const struct pages *pages, const uint8_t *at, size_t around)
-{
-    return at >= pages->first - around && at < pages->first + pages->size + around;
-}
-
-/* A page that the player must not touch was touched. */
-static void on_fault(int signal, siginfo_t *info, void *context)
-{
-    const uint8_t *at = info->si_addr;
-    (void)signal;
-    (void)context;
-    if (within(&list_pages, at, 0))
-        broken("a write to the list, whose pages are read-only");
-    if (within(&list_pages, at, FENCE))
-        broken("a read or write outside the list");
-    if (within(&out_pages, at, FENCE))
-        broken("a read or write outside the output");
-    if (within(&stack_pages, at, FENCE))
-        broken("over %zu bytes of stack", STACK);
-    broken("a read or write at %p", (const void *)at);
-}
-
-/* So many bytes, a multiple of a page's, so that both ends touch what is inaccessible. */
-static struct pages fenced(size_t size)
-{
-    struct pages pages;
-    uint8_t *all = mmap(NULL, size + 2 * FENCE, PROT_NONE, MAP_PRIVATE | MAP_ANONYMOUS | MAP_NORESERVE, -1, 0);
-    if (all == MAP_FAILED || mprotect(all + FENCE, size, PROT_READ | PROT_WRITE) != 0) {
-        perror("no pages");
-        exit(2);
-    }
-    pages.first = all + FENCE;
-    pages.size = size;
-    return pages;
-}
-
 static void tell(void)
 {
     fprintf(stderr, "%" PRIu64 " lists, %" PRIu64 " of them accepted with %" PRIu64 " frames, ", seen.lists,
@@ -125,31 +59,13 @@ static void tell(void)
 
 static void set_up(void)
 {
-    static uint8_t handlers_stack[1 << 16];
-    stack_t stack = {.ss_sp = handlers_stack, .ss_size = sizeof handlers_stack};
-    struct sigaction action;
-    memset(&action, 0, sizeof action);
-    action.sa_sigaction = on_fault;
-    action.sa_flags = SA_SIGINFO | SA_ONSTACK;
-    list_pages = fenced(2 * MOST_LIST);
-    out_pages = fenced(MOST_OUT + PAGE);
-    stack_pages = fenced(STACK);
+    list_pages = fenced("the list", 2 * MOST_LIST);
+    out_pages = fenced("the output", MOST_OUT + BESIDE);
     for (size_t i = 0; i < MOST_OUT; i++) {
         patterns[0][i] = (uint8_t)(i % 251);
         patterns[1][i] = (uint8_t)~patterns[0][i];
     }
-    if (sigaltstack(&stack, NULL) != 0 || sigaction(SIGSEGV, &action, NULL) != 0 ||
-        sigaction(SIGBUS, &action, NULL) != 0) {
-        perror("no handler");
-        exit(2);
-    }
     atexit(tell);
-}
-
-/* So many bytes of pages, on one side of them. */
-static uint8_t *part(const struct pages *pages, enum side side, size_t len)
-{
-    return side == AT_END ? pages->first + pages->size - len : pages->first;
 }
 
 static struct {
@@ -157,33 +73,13 @@ static struct {
     const uint8_t *list;
     uint8_t *out;
     size_t list_len, out_len;
-    unsigned mode;
     int64_t result;
 } call;
 
-/* The floating-point mode is set and looked at here, since a change of stacks restores it. */
-static void make_call(void)
+static void make_call(void *with)
 {
-    unsigned before = _mm_getcsr();
-    _mm_setcsr(call.mode);
+    (void)with;
     call.result = call.play(call.list, call.list_len, call.out, call.out_len);
-    if ((_mm_getcsr() & CONTROL) != call.mode)
-        broken("the floating-point mode is another after the call");
-    _mm_setcsr(before);
-}
-
-/* The call on the small stack. */
-static void make_call_there(void)
-{
-    static ucontext_t here, there;
-    if (getcontext(&there) != 0)
-        broken("no context");
-    there.uc_stack.ss_sp = stack_pages.first;
-    there.uc_stack.ss_size = stack_pages.size;
-    there.uc_link = &here;
-    makecontext(&there, make_call, 0);
-    if (swapcontext(&here, &there) != 0)
-        broken("no context");
 }
 
 /* The levels of frames: +0 in the spare lanes, and in the voices' a number around 0 to 1. How little
@@ -221,19 +117,14 @@ static const uint8_t *played_by(player *play, unsigned mode, enum side side, con
     memcpy(out, patterns[side], out_len);
     memset(beside, 0xa5, BESIDE);
     call.play = play;
-    call.mode = mode;
-    call.list = list_part;
+    call.list = shown(&list_pages, list_part);
     call.list_len = len;
     call.out = out;
     call.out_len = out_len;
-    if (mprotect(list_pages.first, list_pages.size, PROT_READ) != 0)
-        broken("no read-only pages");
     if (play == worfelli_play)
-        make_call_there();
+        run_on_small_stack(mode, make_call, NULL);
     else
-        make_call();
-    if (mprotect(list_pages.first, list_pages.size, PROT_READ | PROT_WRITE) != 0)
-        broken("no writable pages");
+        run_here(mode, make_call, NULL);
     if (call.result != expected)
         broken("result %" PRId64 ", not %" PRId64, call.result, expected);
     for (size_t i = 0; i < BESIDE; i++)
@@ -292,12 +183,21 @@ static void see_place(const char *name, place *refused_at, const uint8_t *list, 
         broken("%s, for an output of %zu: %" PRIu64 ", not %" PRIu64, name, out_len, at, expected);
 }
 
+/* What a list holds is told as the check has it, or nothing is. */
+static void see_info(const char *name, info *list_info, const uint8_t *list, size_t len)
+{
+    const struct verdict v = check_list(list, len, SIZE_MAX);
+    size_t voices = SIZE_MAX;
+    uint64_t frames = UINT64_MAX;
+    if (list_info(list, len, &voices, &frames) != (uint32_t)v.refusal)
+        broken("%s is not refused by %d", name, v.refusal);
+    if (v.refusal == 0 ? voices != v.voices || frames != v.frames : voices != SIZE_MAX || frames != UINT64_MAX)
+        broken("%s: %zu voices and %" PRIu64 " frames", name, voices, frames);
+}
+
 int LLVMFuzzerTestOneInput(const uint8_t *data, size_t size)
 {
     static uint8_t cut[2 * MOST_LIST];
-    /* Subnormals flushed; rounding down, up and to zero; to zero with subnormals flushed. In these, other
-     * levels are written, and nothing fails. */
-    static const unsigned other_modes[5] = {0x9fc0, 0x3f80, 0x5f80, 0x7f80, 0xffc0};
     const uint8_t *list, *out;
     size_t len, out_len, written;
     unsigned choice;
@@ -323,6 +223,7 @@ int LLVMFuzzerTestOneInput(const uint8_t *data, size_t size)
     }
     see_place("the refused place", worfelli_refused_at, call.list, len, out_len);
     see_place("the refused place", worfelli_refused_at, call.list, len, SIZE_MAX);
+    see_info("what the list holds", worfelli_list_info, call.list, len);
     out = played_by(worfelli_play, USUAL, AT_BEGINNING, list, len, out_len, &v);
     if (memcmp(out, played, written) != 0)
         broken("played again, the list gives other levels");
@@ -331,8 +232,9 @@ int LLVMFuzzerTestOneInput(const uint8_t *data, size_t size)
     if (memcmp(out, played, written) != 0)
         broken("compiled otherwise, the player gives other levels");
     see_place("the refused place, compiled otherwise", guide_refused_at, list, len, out_len);
+    see_info("what the list holds, compiled otherwise", guide_list_info, list, len);
 #endif
-    out = played_by(worfelli_play, other_modes[choice % 5], AT_BEGINNING, list, len, out_len, &v);
+    out = played_by(worfelli_play, other_mode(choice), AT_BEGINNING, list, len, out_len, &v);
     if (v.refusal == 0) {
         see_levels(out, &v, &seen.other);
         out = played_by(worfelli_play, USUAL, AT_END, cut, cut_frames(list, len, choice, cut), out_len, &v);

@@ -1,4 +1,4 @@
-/* Players with one fault each, to see that the fuzz target notices it. WRONG, 1 to 14, chooses the
+/* Players with one fault each, to see that the fuzz target notices it. WRONG, 1 to 16, chooses the
  * fault; the linker puts these in place of the library's functions (--wrap). */
 #include <math.h>
 #include <string.h>
@@ -10,6 +10,8 @@ int64_t __real_worfelli_play(const uint8_t *list, size_t list_len, uint8_t *out,
 int64_t __wrap_worfelli_play(const uint8_t *list, size_t list_len, uint8_t *out, size_t out_len);
 uint64_t __real_worfelli_refused_at(const uint8_t *list, size_t list_len, size_t out_len);
 uint64_t __wrap_worfelli_refused_at(const uint8_t *list, size_t list_len, size_t out_len);
+uint32_t __real_worfelli_list_info(const uint8_t *list, size_t list_len, size_t *voices, uint64_t *frames);
+uint32_t __wrap_worfelli_list_info(const uint8_t *list, size_t list_len, size_t *voices, uint64_t *frames);
 
 int64_t __wrap_worfelli_play(const uint8_t *list, size_t list_len, uint8_t *out, size_t out_len)
 {
@@ -50,8 +52,8 @@ int64_t __wrap_worfelli_play(const uint8_t *list, size_t list_len, uint8_t *out,
         if (written > 0 && list[3] % 16 == 0 && list[3] > 0)
             memcpy(out + written - 4, &(float){NAN}, 4);
         break;
-    case 9: { /* takes 40 KiB of stack */
-        volatile uint8_t deep[40 << 10];
+    case 9: { /* takes 16 KiB of stack */
+        volatile uint8_t deep[16 << 10];
         for (size_t i = 0; i < sizeof deep; i++)
             deep[i] = byte;
         break;
@@ -84,4 +86,14 @@ uint64_t __wrap_worfelli_refused_at(const uint8_t *list, size_t list_len, size_t
     if (WRONG == 14 && list_len > 80 && place == list_len - 7)
         return place + 1;
     return place;
+}
+
+uint32_t __wrap_worfelli_list_info(const uint8_t *list, size_t list_len, size_t *voices, uint64_t *frames)
+{
+    const uint32_t refusal = __real_worfelli_list_info(list, list_len, voices, frames);
+    if (WRONG == 15 && refusal != 0) /* tells something of a list that it refuses */
+        *frames = 0;
+    if (WRONG == 16 && refusal == 0 && *frames > 100) /* more frames than there are */
+        *frames += 1;
+    return refusal;
 }
