@@ -2,7 +2,7 @@
 use Prim.Native.Nat.{ℕ, _+_, _*_}
 use Rattle.memory.specs.Memory.{floatsLength, bendsLength, countsLength, codesLength}
 
--- Of the functions, their types, and how a bank lies in memory.
+-- One number for the functions, their types and how a bank lies in memory.
 abbrev pub version : ℕ
 version = 1
 
