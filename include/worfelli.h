@@ -120,9 +120,11 @@ typedef struct worfelli_timing {
 /* ---- a live bank ---- */
 
 /* A bank of up to 64 voices, in the host's memory. It is plain data with no pointer and no gap in it: a
- * host may copy, store, compare or send it, and a copy goes on as the bank would have. Its numbers are
- * the library's own; read and change them by the functions below alone. Whatever bytes stand in it are
- * some bank, so that no call can fail on them, but only worfelli_bank_open makes a fresh one. */
+ * host may copy, store or send it, and a copy goes on as the bank would have. Its numbers are the library's
+ * own; read and change them by the functions below alone. Whatever bytes stand in it are some bank, so that
+ * no call can fail on them, but only worfelli_bank_open makes a fresh one. That leaves the memory of voices
+ * that the bank does not have as it was: two banks that are the same may differ there in their bytes, and a
+ * bank that is to be stored or sent is better zeroed before it is opened, as a static variable is. */
 #define WORFELLI_BANK_BENDS 131
 #define WORFELLI_BANK_COUNTS 192
 #define WORFELLI_BANK_FLOATS 1236
