@@ -1,5 +1,7 @@
 // The curve family that bends the attack, decay and release stages, and the segments that a stage
 // is drawn with: curve.rs, and `Segment` of lane.rs, by value.
+#![tactic(auto)]
+
 mod curves;
 mod segments;
 

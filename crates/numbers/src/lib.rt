@@ -1,5 +1,7 @@
 // The number helpers of document 01: what the Rust takes from f32, f64 and libm, each one equal in
 // every bit to a definition of specs/, on every input, NaN and infinities included.
+#![tactic(auto)]
+
 mod bits;
 mod conversions;
 mod counts;

@@ -1,4 +1,6 @@
 // An envelope's settings and stages, as mod.rs has them, and the limits that document 01 adds.
+#![tactic(auto)]
+
 mod refusals;
 mod settings;
 mod stages;

@@ -1,4 +1,6 @@
 // From times to counts of samples: mod.rs's TimeUnit and Timing, by value.
+#![tactic(auto)]
+
 ghost use Rattle.std.specs.Prelude.{◌≡◌};
 ghost use Rattle.timing.specs.Clock as Clock;
 ghost use Rattle.timing.specs.Samples as Samples;

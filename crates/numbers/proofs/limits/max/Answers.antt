@@ -4,8 +4,7 @@ use lib.Ieee.{Float, nan, inf, fin, lt, ne, is_nan}
 use lib.Ieee.Bits.{is_false}
 use Rattle.numbers.specs.Limits.{max}
 use Rattle.numbers.proofs.Laws.Floats.{ne_nan, not_ne}
-use Rattle.numbers.proofs.limits.max.Statement.{statement}
-use Rattle.numbers.proofs.limits.max.Tie as tie
+use Rattle.numbers.proofs.limits.max.Goals as goal
 
 first : (x y : Float) → ne x x ≡ true → y ≡ max x y
 unfolding max is_nan
@@ -23,14 +22,11 @@ second (fin s m e) nan h = refl
 rest : (x y : Float) (t : Bool) → ne x x ≡ false → lt x y ≡ t → cond t y x ≡ max x y
 rest x y t h l = sym (second x y (is_false (is_nan x) (not_ne x h)) ∙ ap (λ (b : Bool). cond b y x) l)
 
-returns : tie.Need-returns
-returns c = first c.before.args.x c.before.args.y c.if1.true
+pub returns-then-x : goal.returns-then-x
+returns-then-x c = first c.args.x c.args.y c.if-x.true
 
-returns-2 : tie.Need-returns-2
-returns-2 c = let s = c.before.before.args in rest s.x s.y true c.before.if1.false c.if2.true
+pub returns-then-x-y : goal.returns-then-x-y
+returns-then-x-y c = let s = c.args in rest s.x s.y true c.if-x.false c.if-x-y.true
 
-returns-3 : tie.Need-returns-3
-returns-3 c = let s = c.before.before.args in rest s.x s.y false c.before.if1.false c.if2.false
-
-pub max-spec : {M : Type 1} → statement M
-max-spec = tie.close (tie.spec returns returns-2 returns-3)
+pub returns-else-x-y : goal.returns-else-x-y
+returns-else-x-y c = let s = c.args in rest s.x s.y false c.if-x.false c.if-x-y.false
