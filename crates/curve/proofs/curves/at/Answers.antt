@@ -1,0 +1,7 @@
+-- `at`: the definition's operations in their order.
+use Rattle.curve.specs.Curves.{at}
+use Rattle.curve.proofs.curves.at.Goals as goal
+
+pub returns : goal.returns
+unfolding at
+returns c = simp (c.progress.ensures, c.of_u64.ensures)

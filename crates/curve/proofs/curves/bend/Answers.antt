@@ -1,0 +1,8 @@
+-- `bend`: the definition's operations in their order.
+use lib.Ieee.{of_bits}
+use Rattle.curve.specs.Curves.{bend}
+use Rattle.curve.proofs.curves.bend.Goals as goal
+
+pub returns : goal.returns
+unfolding bend of_bits
+returns c = simp (c.widen.ensures, c.unit.ensures)

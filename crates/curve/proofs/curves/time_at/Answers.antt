@@ -1,0 +1,14 @@
+-- `time_at`: straight or bent, each return the definition's case.
+use lib.Ieee.{of_bits}
+use Rattle.curve.specs.Curves.{time_at}
+use Rattle.curve.proofs.curves.time_at.Goals as goal
+
+pub returns-then-k : goal.returns-then-k
+unfolding time_at of_bits
+returns-then-k c = simp (c.if-k.true, c.clamp-v.ensures)
+
+pub returns-else-k : goal.returns-else-k
+unfolding time_at of_bits
+returns-else-k c =
+    simp
+    (c.clamp.ensures, c.ln_1p.ensures, c.exp_m1.ensures, c.if-k.false, c.clamp-v.ensures)

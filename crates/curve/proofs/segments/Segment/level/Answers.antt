@@ -1,0 +1,7 @@
+use mathlib.Core.Path.{refl}
+use Rattle.curve.specs.Segments.{level}
+use Rattle.curve.proofs.segments.Segment.level.Goals as goal
+
+pub returns : goal.returns
+unfolding level
+returns c = refl
