@@ -9,7 +9,7 @@ use settings::{ACCEPTED, EnvelopeParams, NO_SUCH_VOICE, Trigger};
 use timing::Timing;
 
 // What a call, or a segment's end, makes of a voice.
-#[derive(Drop)]
+#[derive(Clone, Copy)]
 pub(crate) enum Change {
     Params(EnvelopeParams),
     Replan,

@@ -10,7 +10,7 @@ use settings::{ACCEPTED, EnvelopeParams, NO_SUCH_VOICE, TOO_MANY_VOICES};
 use timing::Timing;
 
 // How many voices it has.
-#[derive(Drop)]
+#[derive(Clone, Copy)]
 pub struct Known {
     pub voices: usize,
 }

@@ -12,32 +12,32 @@ use memory::{
 use settings::{EnvelopeParams, Stage};
 
 // A voice that the bank has. That it has no such voice is document 01's number 2.
-#[derive(Drop)]
+#[derive(Clone, Copy)]
 pub enum ParamsReading {
     Params(EnvelopeParams),
     NoSuchVoice,
 }
 
-#[derive(Drop)]
+#[derive(Clone, Copy)]
 pub enum StageReading {
     Stage(Stage),
     NoSuchVoice,
 }
 
-#[derive(Drop)]
+#[derive(Clone, Copy)]
 pub enum LevelReading {
     Level(f32),
     NoSuchVoice,
 }
 
-#[derive(Drop)]
+#[derive(Clone, Copy)]
 pub enum IdleReading {
     Idle(bool),
     NoSuchVoice,
 }
 
 // A number of frames.
-#[derive(Drop)]
+#[derive(Clone, Copy)]
 pub enum FramesReading {
     Frames(u64),
     NoSuchVoice,

@@ -12,7 +12,7 @@ use settings::{ACCEPTED, MISPLACED_OPEN, OUTPUT_TOO_SHORT};
 
 // How far a list is checked: the number of the refusal, 0 if nothing is refused; the first byte of
 // the record that is refused or comes next; what is known of the bank, and the frames so far.
-#[derive(Drop)]
+#[derive(Clone, Copy)]
 pub struct Checked {
     pub refusal: u32,
     pub at: usize,

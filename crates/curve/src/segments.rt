@@ -5,7 +5,7 @@ ghost use Rattle.curve.specs.Segments as Segments;
 // `left` of a level that holds until something happens (sustain and idle).
 pub const UNTIMED: u32 = 0xffff_ffff;
 
-#[derive(Drop)]
+#[derive(Clone, Copy)]
 pub struct Segment {
     pub u: f32,
     pub r: f32,

@@ -7,21 +7,21 @@ use settings::{ACCEPTED, EnvelopeParams, Stage, Trigger};
 use timing::Timing;
 
 // A voice, and the timing that its counts are made with.
-#[derive(Drop)]
+#[derive(Clone, Copy)]
 pub struct Envelope {
     pub voice: Voice,
     pub timing: Timing,
 }
 
 // A refusal's number, 0 if the call was accepted, and the envelope after it.
-#[derive(Drop)]
+#[derive(Clone, Copy)]
 pub struct Answer {
     pub refusal: u32,
     pub envelope: Envelope,
 }
 
 // One level, and the envelope after it.
-#[derive(Drop)]
+#[derive(Clone, Copy)]
 pub struct Frame {
     pub level: f32,
     pub envelope: Envelope,

@@ -12,7 +12,7 @@ use settings::{
 use timing::{TimeUnit, Timing};
 
 // What a record says. Timing and settings come as their numbers.
-#[derive(Drop)]
+#[derive(Clone, Copy)]
 pub enum Event {
     Open {
         voices: u8,
@@ -40,14 +40,14 @@ pub enum Event {
 
 // What stands at a place of a list: an event and the place after its record, or the number that
 // refuses the record.
-#[derive(Drop)]
+#[derive(Clone, Copy)]
 pub enum Reading {
     Record { event: Event, next: usize },
     Refused(u32),
 }
 
 // What kind of record it is. `Unknown` is of the numbers that no kind has.
-#[derive(Drop)]
+#[derive(Clone, Copy)]
 pub enum Tag {
     Unknown,
     Open,

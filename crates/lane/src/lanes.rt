@@ -10,7 +10,7 @@ use timing::Timing;
 
 // A stage's length, target and bend, as the settings set them. A change in them is what makes a
 // change of settings re-plan the stage.
-#[derive(Drop)]
+#[derive(Clone, Copy)]
 pub struct Spec {
     pub total: u64,
     pub to: f32,
@@ -18,7 +18,7 @@ pub struct Spec {
 }
 
 // One envelope's plan.
-#[derive(Drop)]
+#[derive(Clone, Copy)]
 pub struct Lane {
     pub params: EnvelopeParams,
     pub stage: Stage,
@@ -38,21 +38,21 @@ pub struct Lane {
 }
 
 // A plan, and the segment that it draws now.
-#[derive(Drop)]
+#[derive(Clone, Copy)]
 pub struct Voice {
     pub lane: Lane,
     pub seg: Segment,
 }
 
 // Where a stage begins: its curve's start level, and how many samples along the curve.
-#[derive(Drop)]
+#[derive(Clone, Copy)]
 pub struct Joined {
     pub from: f32,
     pub pos: u64,
 }
 
 // The stage that was found, and its plan.
-#[derive(Drop)]
+#[derive(Clone, Copy)]
 pub struct Entered {
     pub stage: Stage,
     pub spec: Spec,

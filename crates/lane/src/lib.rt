@@ -2,6 +2,8 @@
 // exponentials in binary64; between two such moments a `Segment` has all that drawing needs.
 // Where the Rust changes a lane and a segment in place, a `Voice` holds the two and goes in and out
 // by value.
+#![tactic(auto)]
+
 mod lanes;
 mod voices;
 

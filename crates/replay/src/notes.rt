@@ -8,7 +8,7 @@ use settings::{EnvelopeParams, Trigger};
 use timing::Timing;
 
 // What the calls of a note answer, and the envelope after them.
-#[derive(Drop)]
+#[derive(Clone, Copy)]
 pub(crate) struct Note {
     pub params_refused: u32,
     pub timing_refused: u32,

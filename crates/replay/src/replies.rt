@@ -68,7 +68,7 @@ pub(crate) fn high(x: u64) -> u32 {
 }
 
 // What an answer tells of an envelope or a voice.
-#[derive(Drop)]
+#[derive(Clone, Copy)]
 pub(crate) struct Told {
     pub params: EnvelopeParams,
     pub stage: Stage,

@@ -6,7 +6,7 @@ use timing::TimeUnit;
 
 // Which level a note begins with on a voice that still sounds: the one that it has now, so that
 // nothing jumps, or the start level.
-#[derive(Drop)]
+#[derive(Clone, Copy)]
 pub enum StealRestart {
     CurrentLevel,
     StartLevel,
@@ -16,7 +16,7 @@ pub enum StealRestart {
 // sounds or not. Retrigger gives a sounding voice another note, from the level that `steal_restart`
 // names. Legato changes nothing while the voice sounds, or is a retrigger if `legato_inverted` is set.
 // On an idle voice all three are the same.
-#[derive(Drop)]
+#[derive(Clone, Copy)]
 pub enum Trigger {
     New,
     Retrigger,
@@ -25,7 +25,7 @@ pub enum Trigger {
 
 // The times count what `unit` says. The levels and the curves are kept as given, and where they are
 // used taken through `numbers::unit`.
-#[derive(Drop)]
+#[derive(Clone, Copy)]
 pub struct EnvelopeParams {
     pub unit: TimeUnit,
     pub delay: f32,

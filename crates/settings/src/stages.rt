@@ -5,7 +5,7 @@ ghost use Rattle.settings.specs.Stages as Stages;
 // Idle holds the end level until a note, Delay the starting level, Hold full, Sustain its level
 // until the note ends; Attack rises to full, Decay falls to the sustain level, Release to the end
 // level.
-#[derive(Drop)]
+#[derive(Clone, Copy)]
 pub enum Stage {
     Idle,
     Delay,

@@ -11,14 +11,14 @@ pub const MIN_TIME_SCALE: f64 = 0.1;
 pub const MAX_TIME_SCALE: f64 = 10.0;
 
 // What a time counts: milliseconds, or quarter notes at the timing's tempo.
-#[derive(Drop)]
+#[derive(Clone, Copy)]
 pub enum TimeUnit {
     Milliseconds,
     Tempo,
 }
 
 // How many samples a second has and how many beats a minute, and a factor for all times.
-#[derive(Drop)]
+#[derive(Clone, Copy)]
 pub struct Timing {
     pub sample_rate: f64,
     pub tempo: f64,
