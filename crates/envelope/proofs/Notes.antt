@@ -2,7 +2,7 @@
 use mathlib.Core.Path.{◌≡◌, refl, ap, ◌∙◌}
 use mathlib.Core.Bool.{false}
 use Prim.Native.Nat.{ℕ, ◌-◌}
-use native.Mathlib.Nat.{sub_zero}
+use native.Mathlib.Nat.{sub-zero}
 use Rattle.numbers.specs.Counts.{held}
 use Rattle.numbers.specs.Limits.{unit}
 use Rattle.timing.specs.Samples.{samples}
@@ -41,7 +41,7 @@ new-note-lengths e k =
     let p = params e in
     let t = e.timing in
     let whole : attack_lasts t p (unit p.start) ≡ samples t p.attack p.unit =
-    ap (λ (n : ℕ). samples t p.attack p.unit - n) (new-note-place p t) ∙ sub_zero (samples t p.attack p.unit)
+    ap (λ (n : ℕ). samples t p.attack p.unit - n) (new-note-place p t) ∙ sub-zero (samples t p.attack p.unit)
     in
     stage-lengths e New refl k
     ∙ ap (λ (a : ℕ). scheduled (samples t p.delay p.unit) a (samples t p.hold p.unit) (samples t p.decay p.unit) k) whole

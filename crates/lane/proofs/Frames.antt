@@ -2,7 +2,7 @@
 use mathlib.Core.Path.{◌≡◌, refl, ap, ◌∙◌}
 use Prim.Native.Nat.{ℕ, zero, suc, ◌+◌, ◌-◌, ◌≤◌, ◌<◌}
 use native.Mathlib.Omega.{arith}
-use native.Mathlib.Nat.{zero-add, suc-add, sub_zero}
+use native.Mathlib.Nat.{zero-add, suc-add, sub-zero}
 use borrow.Author.Tests.{eq-eqb, ne_eqb}
 use Rattle.timing.specs.declared.Timing.{Timing}
 use Rattle.curve.specs.declared.segments.Segment.{Segment}
@@ -40,7 +40,7 @@ module _ (t : Timing) where
   -- Fewer frames than are left.
   pub frames-inside : (n : ℕ) (v : Voice) → n < v.seg.left → v.seg.left < untimed → frames n t v ≡ after n (v.seg.left - n) v
   unfolding frame stepped next_u
-  frames-inside zero v h b = rw sub_zero
+  frames-inside zero v h b = rw sub-zero
   frames-inside (suc n) v h b =
       let w = after 1 (v.seg.left - 1) v in
       let f : frame t v ≡ w = rw (ne_eqb v.seg.left untimed (λ i. omega arith), ne_eqb (v.seg.left - 1) 0 (λ i. omega arith)) in

@@ -1,0 +1,6 @@
+use Rattle.lane.specs.Planning.{begin}
+use Rattle.lane.proofs.lanes.Lane.begin.Goals as goal
+
+pub returns : goal.returns
+unfolding begin
+returns c = c.start_segment.ensures

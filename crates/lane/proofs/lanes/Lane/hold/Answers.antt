@@ -1,0 +1,6 @@
+use Rattle.lane.specs.Planning.{hold}
+use Rattle.lane.proofs.lanes.Lane.hold.Goals as goal
+
+pub returns : goal.returns
+unfolding hold
+returns c = simp c.constant.ensures

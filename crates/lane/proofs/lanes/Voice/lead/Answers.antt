@@ -1,0 +1,26 @@
+use mathlib.Core.Path.{◌≡◌}
+use Prim.Native.Nat.{ℕ, ◌+◌}
+use native.Mathlib.Omega.{arith}
+use Rattle.numbers.specs.Counts.{held}
+use Rattle.lane.specs.Readings.{lead, rest}
+use Rattle.lane.proofs.lanes.Voice.lead.Goals as goal
+
+plain : (a b c : ℕ) → held (held (a + b) + held c) ≡ held (a + b + c)
+plain a b c = omega arith
+
+pub returns-then-not-leads_up : goal.returns-then-not-leads_up
+unfolding lead
+returns-then-not-leads_up c = simp (simp c.leads_up.ensures at c.if-not-leads_up.true)
+
+pub returns : goal.returns
+unfolding lead rest
+returns c =
+    simp (
+      simp c.leads_up.ensures at c.if-not-leads_up.false,
+      c.saturating_add.ensures,
+      c.stages_last.ensures,
+      c.next.ensures,
+      c.saturating_add-present.ensures,
+      c.saturating_sub-rest.ensures,
+      c.saturating_sub-drawn.ensures,
+    ) (plain _ _ _)

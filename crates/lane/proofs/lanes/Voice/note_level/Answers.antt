@@ -1,0 +1,15 @@
+-- `note_level`: an arm for each trigger, by what `unit` and `restart_level` ensure.
+use Rattle.lane.specs.Voices.{note_level}
+use Rattle.lane.proofs.lanes.Voice.note_level.Goals as goal
+
+pub returns-in-New : goal.returns-in-New
+unfolding note_level
+returns-in-New c = simp (c.unit.ensures, c.in-New.is)
+
+pub returns-in-Retrigger : goal.returns-in-Retrigger
+unfolding note_level
+returns-in-Retrigger c = simp (c.restart_level.ensures, c.in-Retrigger.is)
+
+pub returns-in-Legato : goal.returns-in-Legato
+unfolding note_level
+returns-in-Legato c = simp (c.restart_level-in-Legato.ensures, c.in-Legato.is)

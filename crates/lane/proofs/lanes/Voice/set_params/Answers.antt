@@ -1,0 +1,6 @@
+use Rattle.lane.specs.Voices.{set_params, with_params}
+use Rattle.lane.proofs.lanes.Voice.set_params.Goals as goal
+
+pub returns : goal.returns
+unfolding set_params with_params
+returns c = c.replanned.ensures
