@@ -1,4 +1,6 @@
 // The event list: its records, read from bytes.
+#![tactic(auto)]
+
 ghost use Rattle.std.specs.Prelude.{◌≡◌, ◌+◌, ◌≤◌, ◌<◌, ◌^◌, length};
 ghost use Rattle.numbers.specs.Bytes as Bytes;
 ghost use Rattle.events.specs.declared.Event.{Event};

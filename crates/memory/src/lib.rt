@@ -1,5 +1,7 @@
 // A bank's numbers in four arrays, which its calls are lent and change in place: where each lies, and
 // a voice put together from them and stored in them.
+#![tactic(auto)]
+
 mod arrays;
 mod codes;
 mod voices;

@@ -1,0 +1,11 @@
+-- `load`: a voice that there is room for is `load_voice`; any other is the idle voice of the definition.
+use lib.Ieee.{of_bits}
+use borrow.Author.Tests.{lt-ltb, le-ltb}
+use Rattle.memory.proofs.voices.load.Goals as goal
+
+pub returns-then-v-lt-MAX_VOICES : goal.returns-then-v-lt-MAX_VOICES
+returns-then-v-lt-MAX_VOICES c = rw (lt-ltb _ _ c.if-v-lt-MAX_VOICES.true) c.load_voice.ensures
+
+pub returns : goal.returns
+unfolding of_bits
+returns c = rw (le-ltb _ _ c.if-v-lt-MAX_VOICES.false) c.new.ensures
