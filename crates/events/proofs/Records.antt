@@ -5,7 +5,7 @@ use mathlib.Core.Bool.{Bool, true, false, cond, not}
 use mathlib.Core.List.{List, map}
 use Prim.Native.Nat.{ℕ, zero, suc, ◌+◌, ◌-◌, ◌≤◌}
 use native.Mathlib.Omega.{arith}
-use borrow.Author.Tests.{ltb-false, ne_eqb, not_true, not_false}
+use borrow.Author.Tests.{ltb-false, ne_eqb, not-true, not-false}
 use lib.Dec.{ltb, eqb}
 use lib.ListN.{length, get_or, replicate, get_or-map}
 use Rattle.numbers.specs.Bytes.{number}
@@ -81,7 +81,7 @@ module _ (first : Bool) (P : ℕ → Type 0) (l : List ℕ) (i next : ℕ) (p : 
 -- Where a record may stand: an open at byte 0 and only there.
 stands : (f o : Bool) → cond f o (not o) ≡ true → o ≡ f
 stands true o e = e
-stands false o e = not_true o e
+stands false o e = not-true o e
 
 -- Past the head and within the list.
 abbrev Within : List ℕ → ℕ → ℕ → Type 0
@@ -99,7 +99,7 @@ accepted l at =
     by_test Q (eqb (body_length tag) 0) (λ z. omega arith) (λ z.
     by_test Q (not (eqb n (body_length tag))) (λ z. omega arith) (λ z.
     by_test Q (not (placed (byte l at) at)) (λ z. omega arith) (λ d.
-    let o = stands (eqb at 0) (eqb (byte l at) 1) (not_false (placed (byte l at) at) d) in
+    let o = stands (eqb at 0) (eqb (byte l at) 1) (not-false (placed (byte l at) at) d) in
     meant (eqb at 0) (Within l at) l (at + 3) next (omega arith, ltb-false (length l) next e) tag (open_number (byte l at) ∙ o))))))
 
 module _ (l : List ℕ) (at : ℕ) (e : Event) (next : ℕ) (h : read l at ≡ Reading.Record e next) where
