@@ -1,5 +1,7 @@
 // Rows of levels, drawn from an array of floats that is changed in place: sixteen lanes at a time,
 // into floats or straight into bytes; and how many rows are drawn before a voice's segment ends.
+#![tactic(auto)]
+
 mod lanes;
 mod runs;
 mod strides;

@@ -1,0 +1,16 @@
+-- `draw_still` meets its contract. The loop's invariant: the first k rows are laid. Each is the first, since the lanes stay.
+use mathlib.Core.Path.{◌≡◌}
+use Prim.Native.Nat.{◌+◌, ◌-◌, ◌*◌, ◌≤◌}
+use lib.ListN.{length}
+use Rattle.rows.specs.Rows.{drawn_at, byte_cell, Laid}
+use Rattle.rows.proofs.lanes.bytes.draw_still.Given as goal
+
+abbrev pub invariant-loop-k : goal.invariant-loop-k
+invariant-loop-k l =
+    (l.k ≤ l.rows)
+    × (l.to ≡ l.at + l.k * l.stride)
+    × (length l.out ≡ length l.initial.out)
+    × Laid 0 64 byte_cell l.stride l.at l.k (λ k i. drawn_at k l.f (l.g + i)) l.initial.out l.out
+
+abbrev pub decreases-loop-k : goal.decreases-loop-k
+decreases-loop-k l = l.rows - l.k
