@@ -3,7 +3,6 @@
 use mathlib.Core.Path.{◌≡◌, ap, ◌∙◌}
 use mathlib.Core.Bool.{true, false}
 use mathlib.Core.List.{List}
-use mathlib.Core.Logic.{⊎_elim}
 use Prim.Native.Nat.{ℕ, ◌+◌, ◌*◌}
 use native.Mathlib.Omega.{arith}
 use borrow.Author.Tests.{lt-ltb, le-ltb, eq-eqb, ne_eqb}
@@ -13,6 +12,7 @@ use Rattle.numbers.specs.Bytes.{number}
 use Rattle.events.specs.Format.{byte, tag_of, body_length, placed, read}
 use Rattle.events.proofs.Numbers.{two_bytes}
 use Rattle.events.proofs.read.Goals as goal
+use Rattle.events.proofs.read.Goals.{then-at-eq0+else-number-ne1, else-at-eq0+else-number-eq1}
 use Rattle.events.proofs.read.Goals.{After-body_length-wanted, After-wide-2, Else-len-wanted, Else-list-at-2}
 
 len_is : (c : After-wide-2) → (c.wide.result + c.wide-2.result * 256) ≡ number 2 c.args.list.now (c.args.at + 1)
@@ -80,4 +80,12 @@ returns-then-number-eq1 c =
 
 pub returns : goal.returns
 unfolding read
-returns c = elim c.if-at-eq0.branch [ a ↦ ? | b ↦ ? ]
+returns c =
+    let u = uncut (goal.at.returns c).Else-list-at-2 in
+    let s = sized (goal.at.returns c).Else-len-wanted in
+    let p : placed (byte c.args.list.now c.args.at) c.args.at ≡ true =
+    elim c.if-at-eq0.branch [
+      then-at-eq0+else-number-ne1 w ↦ rw (eq-eqb c.args.at 0 w.if-at-eq0.true, eq-eqb (byte c.args.list.now c.args.at) 1 w.if-number-ne1.false)
+      | else-at-eq0+else-number-eq1 w ↦ rw (ne_eqb c.args.at 0 w.if-at-eq0.false, ne_eqb (byte c.args.list.now c.args.at) 1 w.if-number-eq1.false)
+    ] in
+    rw (← len_is (goal.at.returns c).After-wide-2, u.0, u.1, s.0, s.1, p, ← c.tag_of-tag.ensures) c.meaning.ensures
