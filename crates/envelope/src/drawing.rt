@@ -31,8 +31,9 @@ fn draw(out: &mut [f32], from: usize, run: usize, seg: Segment) -> f32
 
 // The voice after `run` frames within its segment, the last of which left u.
 fn passed(voice: Voice, timing: Timing, run: usize, u: f32) -> Voice
-    requires le_run { (1 ≤ run) × Segments.Inside run voice.seg.left }
-    requires u_value { u ≡ Segments.u_after run voice.seg.u voice.seg.r voice.seg.d }
+    requires some { 1 ≤ run }
+    requires inside { Segments.Inside run voice.seg.left }
+    requires moved { u ≡ Segments.u_after run voice.seg.u voice.seg.r voice.seg.d }
     ensures { result ≡ Voices.frames run timing voice }
 {
     let left = voice.seg.left;
