@@ -1,5 +1,7 @@
 // The bank: up to 64 voices under one clock, in four arrays of numbers that its calls are lent and
 // change in place.
+#![tactic(auto)]
+
 mod blocks;
 mod calls;
 mod changes;

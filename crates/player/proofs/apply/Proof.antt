@@ -23,103 +23,78 @@ use Rattle.bank.proofs.trigger.Reads as trigger-reads
 use Rattle.bank.proofs.open.Reads as open-reads
 use Rattle.player.proofs.draw.Reads as draw-reads
 
--- src/lib.rt:51:13
 enum-known-event : tie.Need-enum-known-event
 enum-known-event c = search rules
 
--- src/lib.rt:55:36
 cast-open : tie.Need-overflow-cast-open
 cast-open c = search rules
 
--- src/lib.rt:55:13
 open-requires : tie.Need-open-requires
 open-requires c κs = search rules
 
--- src/lib.rt:58:28
 enum-known-event-2 : tie.Need-enum-known-event-2
 enum-known-event-2 c = search rules
 
--- src/lib.rt:59:42
 cast-set-params : tie.Need-overflow-cast-set-params
 cast-set-params c = search rules
 
--- src/lib.rt:59:13
 set-params-requires : tie.Need-set-params-requires
 set-params-requires c κs = search rules
 
--- src/lib.rt:62:29
 enum-known-event-3 : tie.Need-enum-known-event-3
 enum-known-event-3 c = search rules
 
--- src/lib.rt:63:13
 set-all-params-requires : tie.Need-set-all-params-requires
 set-all-params-requires c κs = search rules
 
--- src/lib.rt:66:26
 enum-known-event-4 : tie.Need-enum-known-event-4
 enum-known-event-4 c = search rules
 
--- src/lib.rt:67:13
 set-timing-requires : tie.Need-set-timing-requires
 set-timing-requires c κs = search rules
 
--- src/lib.rt:70:26
 enum-known-event-5 : tie.Need-enum-known-event-5
 enum-known-event-5 c = search rules
 
--- src/lib.rt:71:39
 cast-trigger : tie.Need-overflow-cast-trigger
 cast-trigger c = search rules
 
--- src/lib.rt:71:13
 trigger-requires : tie.Need-trigger-requires
 trigger-requires c κs = search rules
 
--- src/lib.rt:74:24
 enum-known-event-6 : tie.Need-enum-known-event-6
 enum-known-event-6 c = search rules
 
--- src/lib.rt:75:39
 cast-release : tie.Need-overflow-cast-release
 cast-release c = search rules
 
--- src/lib.rt:75:13
 release-requires : tie.Need-release-requires
 release-requires c κs = search rules
 
--- src/lib.rt:78:22
 enum-known-event-7 : tie.Need-enum-known-event-7
 enum-known-event-7 c = search rules
 
--- src/lib.rt:79:37
 cast-reset : tie.Need-overflow-cast-reset
 cast-reset c = search rules
 
--- src/lib.rt:79:13
 reset-requires : tie.Need-reset-requires
 reset-requires c κs = search rules
 
--- src/lib.rt:82:23
 enum-known-event-8 : tie.Need-enum-known-event-8
 enum-known-event-8 c = search rules
 
--- src/lib.rt:83:36
 cast-join : tie.Need-overflow-cast-join
 cast-join c = search rules
 
--- src/lib.rt:83:52
 cast-join-2 : tie.Need-overflow-cast-join-2
 cast-join-2 c = search rules
 
--- src/lib.rt:83:13
 join-requires : tie.Need-join-requires
 join-requires c κs = search rules
 
--- src/lib.rt:86:23
 enum-known-event-9 : tie.Need-enum-known-event-9
 enum-known-event-9 c = search rules
 
--- src/lib.rt:86:34
 draw-requires : tie.Need-draw-requires
 unfolding frames_of
 draw-requires c κs =
@@ -127,67 +102,57 @@ draw-requires c κs =
     let a = s.args in
     subst (λ (e : Event). frames_of e * stride_of (size (bank_of (arrays a.f.now a.k.now a.n.now a.c.now))) ≤ length a.out.now / 4) c.before.before.before.before.before.before.event9.given.1 s.requires
 
--- src/lib.rt:36:1
 returns : tie.Need-returns
 unfolding after deed frames_of
 returns c =
     let a = c.before.before.before.before.before.before.before.before.before.args in
     applied_quiet (bank_of (arrays a.f.now a.k.now a.n.now a.c.now)) _ _ a.out.now _ c.before.before.before.before.before.before.event.given.1 refl c.«open».ensures.1.0
 
--- src/lib.rt:36:1
 returns-2 : tie.Need-returns-2
 unfolding after deed frames_of
 returns-2 c =
     let a = c.before.before.before.before.before.before.before.before.before.args in
     applied_quiet (bank_of (arrays a.f.now a.k.now a.n.now a.c.now)) _ _ a.out.now _ c.before.before.before.before.before.before.event2.given.1 refl c.set-params.ensures.1.0
 
--- src/lib.rt:36:1
 returns-3 : tie.Need-returns-3
 unfolding after deed frames_of
 returns-3 c =
     let a = c.before.before.before.before.before.before.before.before.before.args in
     applied_quiet (bank_of (arrays a.f.now a.k.now a.n.now a.c.now)) _ _ a.out.now _ c.before.before.before.before.before.before.event3.given.1 refl c.set-all-params.ensures.1.0
 
--- src/lib.rt:36:1
 returns-4 : tie.Need-returns-4
 unfolding after deed frames_of
 returns-4 c =
     let a = c.before.before.before.before.before.before.before.before.before.args in
     applied_quiet (bank_of (arrays a.f.now a.k.now a.n.now a.c.now)) _ _ a.out.now _ c.before.before.before.before.before.before.event4.given.1 refl c.set-timing.ensures.1.0
 
--- src/lib.rt:36:1
 returns-5 : tie.Need-returns-5
 unfolding after deed frames_of
 returns-5 c =
     let a = c.before.before.before.before.before.before.before.before.before.args in
     applied_quiet (bank_of (arrays a.f.now a.k.now a.n.now a.c.now)) _ _ a.out.now _ c.before.before.before.before.before.before.event5.given.1 refl c.trigger.ensures.1.0
 
--- src/lib.rt:36:1
 returns-6 : tie.Need-returns-6
 unfolding after deed frames_of
 returns-6 c =
     let a = c.before.before.before.before.before.before.before.before.before.args in
     applied_quiet (bank_of (arrays a.f.now a.k.now a.n.now a.c.now)) _ _ a.out.now _ c.before.before.before.before.before.before.event6.given.1 refl c.release.ensures.1.0
 
--- src/lib.rt:36:1
 returns-7 : tie.Need-returns-7
 unfolding after deed frames_of
 returns-7 c =
     let a = c.before.before.before.before.before.before.before.before.before.args in
     applied_quiet (bank_of (arrays a.f.now a.k.now a.n.now a.c.now)) _ _ a.out.now _ c.before.before.before.before.before.before.event7.given.1 refl c.reset.ensures.1.0
 
--- src/lib.rt:36:1
 returns-8 : tie.Need-returns-8
 unfolding after deed frames_of
 returns-8 c =
     let a = c.before.before.before.before.before.before.before.before.before.args in
     applied_quiet (bank_of (arrays a.f.now a.k.now a.n.now a.c.now)) _ _ a.out.now _ c.before.before.before.before.before.before.event8.given.1 refl c.join.ensures.1.0
 
--- src/lib.rt:36:1
 same_length : tie.Need-same-length
 same_length c = search rules
 
--- src/lib.rt:36:1
 returns-9 : tie.Need-returns-9
 returns-9 c =
     let a = c.before.before.before.before.before.before.before.before.before.before.before.before.args in
