@@ -1,4 +1,6 @@
 // The check of a whole event list, before a level is drawn: record by record, with no bank.
+#![tactic(auto)]
+
 ghost use Rattle.std.specs.Prelude.{◌≡◌, ◌≤◌, ◌<◌, ◌^◌};
 ghost use Rattle.memory.specs.Memory as Memory;
 ghost use Rattle.bank.specs.Calls as Calls;

@@ -65,7 +65,7 @@ call-stands b r s c = go (refusal (known b) c) refl
 
 run-stands : (b : Bank) (r : Reading) → Stands b r → (cs : List Call) → Stands (run (λ b c. (answer b c).bank) b cs) (run read r cs)
 run-stands b r s [] = s
-run-stands b r s (c ∷ cs) = run-stands _ _ (call-stands b r s c) cs
+run-stands b r s (c ∷ cs) = run-stands (answer b c).bank (read r c) (call-stands b r s c) cs
 
 -- After any list of calls.
 pub stands : (o : Opening) (cs : List Call) → Stands (bank_after o cs) (reading o cs)
