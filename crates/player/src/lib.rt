@@ -1,5 +1,7 @@
 // Plays an event list from bytes into bytes: the whole list is checked, then each record is read and
 // applied to a bank.
+#![tactic(auto)]
+
 ghost use Rattle.std.specs.Prelude.{◌≡◌, ◌*◌, ◌/◌, ◌≤◌, pos, neg_ℤ, length};
 ghost use Rattle.memory.specs.Memory as Memory;
 ghost use Rattle.rows.specs.Strides as Strides;

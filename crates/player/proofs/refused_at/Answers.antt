@@ -1,0 +1,9 @@
+use mathlib.Core.Path.{ap, ◌∙◌}
+use Rattle.checking.specs.declared.Checked.{Checked}
+use Rattle.player.proofs.Written.{place-told}
+use Rattle.player.proofs.refused_at.Goals as goal
+
+pub returns : goal.returns
+returns c =
+    let a = c.args in
+    ap (λ (x : Checked). x.at) c.check.ensures ∙ place-told a.list.now a.out_len
