@@ -1,9 +1,13 @@
 // Plays an event list, of up to 16,384 bytes from standard input, into an output of 16,384 levels, and
 // prints it. A line for each frame: its number, from 0, then for each voice a space and the level's
 // bits in eight hexadecimal digits. A list that is refused: its refusal's number and place.
-ghost use Rattle.std.specs.Prelude.{◌+◌, ◌*◌, ◌≤◌, ◌<◌, length};
+#![tactic(auto)]
+
+ghost use Rattle.std.specs.Prelude.{◌+◌, ◌*◌, ◌≤◌, ◌<◌, length, IfOk};
 
 use settings::ACCEPTED;
+use std::io;
+use std::io::{BufWriter, Read, Write};
 
 fn wide(x: u8) -> u64
     ensures { result < 256 }
@@ -21,59 +25,80 @@ fn bits(out: &[u8], at: usize) -> u64
         + wide(out[at + 3]) * 0x100_0000
 }
 
-fn print_levels(out: &[u8], at: usize, voices: usize)
+fn print_levels(to: &mut impl Write, out: &[u8], at: usize, voices: usize) -> io::Result<()>
     requires { at + 4 * voices ≤ length out.now }
 {
     let mut v = 0;
     while v < voices {
-        io::write_all(1, b" ");
-        io::print_hex(1, bits(out, at + 4 * v), 8);
+        let level = bits(out, at + 4 * v);
+        write!(to, " {level:08x}")?;
         v += 1;
     }
+    Ok(())
 }
 
-fn print_frames(out: &[u8], frames: usize, voices: usize, stride: usize)
+fn print_frames(
+    to: &mut impl Write,
+    out: &[u8],
+    frames: usize,
+    voices: usize,
+    stride: usize,
+) -> io::Result<()>
     requires { (voices ≤ stride) × (4 * (frames * stride) ≤ length out.now) }
 {
     let mut k = 0;
     while k < frames {
-        io::print_decimal(1, k as u64);
-        print_levels(out, 4 * (k * stride), voices);
-        io::write_all(1, b"\n");
+        write!(to, "{k}")?;
+        print_levels(to, out, 4 * (k * stride), voices)?;
+        writeln!(to)?;
         k += 1;
     }
+    Ok(())
 }
 
-fn print_refusal(refusal: u32, at: usize) {
-    io::write_all(1, b"refused ");
-    io::print_decimal(1, refusal as u64);
-    io::write_all(1, b" at ");
-    io::print_decimal(1, at as u64);
-    io::write_all(1, b"\n");
+fn print_refusal(to: &mut impl Write, refusal: u32, at: usize) -> io::Result<()> {
+    writeln!(to, "refused {refusal} at {at}")
 }
 
-fn show(list: &[u8], out: &mut [u8]) {
+fn show(to: &mut impl Write, list: &[u8], out: &mut [u8]) -> io::Result<()> {
     let c = checking::check(list, out.len());
     if c.refusal != ACCEPTED {
-        print_refusal(c.refusal, c.at);
-        return;
+        return print_refusal(to, c.refusal, c.at);
     }
     player::play(list, out);
     print_frames(
+        to,
         out,
         c.frames as usize,
         c.known.voices,
         bank::stride_of(c.known.voices),
-    );
+    )
 }
 
-fn main() {
+// Reads until the bytes are full or the input ends. Answers how many it put at their start.
+fn read_full(from: &mut impl Read, bytes: &mut [u8]) -> io::Result<usize>
+    ensures { IfOk result (λ n. n ≤ length bytes.new) }
+{
+    let mut done = 0;
+    while done < bytes.len() {
+        let n = from.read(&mut bytes[done..])?;
+        if n == 0 {
+            break;
+        }
+        done += n;
+    }
+    Ok(done)
+}
+
+fn main(rt: HostRuntime) -> io::Result<()> {
     let mut list = [0u8; 16385];
-    let len = io::read_full(0, &mut list);
+    let len = read_full(&mut rt.stdin(), &mut list)?;
+    let mut to = BufWriter::new(rt.alloc(), rt.stdout())?;
     if len > 16384 {
-        io::write_all(1, b"too long\n");
-        return;
+        to.write_all(b"too long\n")?;
+        return to.flush();
     }
     let mut out = [0u8; 65536];
-    show(&list[..len], &mut out);
+    show(&mut to, &list[..len], &mut out)?;
+    to.flush()
 }

@@ -4,6 +4,8 @@ ghost use Rattle.std.specs.Prelude.{◌≤◌, length};
 use crate::{bank_replies, calls, replies};
 use memory::{Bends, Codes, Counts, Floats};
 use settings::ACCEPTED;
+use std::io;
+use std::io::Write;
 
 // Makes a call that writes no levels and reads nothing, and answers its refusal.
 fn called(f: &mut Floats, k: &mut Bends, n: &mut Counts, c: &mut Codes, call: &[u8]) -> u32
@@ -36,39 +38,39 @@ fn fill(levels: &mut [f32], count: usize)
 
 // Makes a process, which is answered.
 fn process(
+    to: &mut impl Write,
     f: &mut Floats,
     k: &mut Bends,
     n: &mut Counts,
     c: &mut Codes,
     count: usize,
     levels: &mut [f32],
-)
+) -> io::Result<()>
     requires { (count ≤ 262144) × (count ≤ length levels.old) }
 {
     fill(levels, count);
     let refusal = bank::process(f, k, n, c, &mut levels[0..count]);
-    replies::write_word(refusal);
-    replies::write_levels(levels, count);
+    replies::write_word(to, refusal)?;
+    replies::write_levels(to, levels, count)
 }
 
 // Makes a call, which is answered.
 pub(crate) fn answer(
+    to: &mut impl Write,
     f: &mut Floats,
     k: &mut Bends,
     n: &mut Counts,
     c: &mut Codes,
     call: &[u8],
     levels: &mut [f32],
-)
+) -> io::Result<()>
     requires { (88 ≤ length call.now) × (262144 ≤ length levels.old) }
 {
     if call[0] == 17 {
-        process(f, k, n, c, calls::count(call, 262144), levels);
-        return;
+        return process(to, f, k, n, c, calls::count(call, 262144), levels);
     }
     if call[0] == 18 {
-        bank_replies::write_readings(f, k, n, c, calls::voice(call));
-        return;
+        return bank_replies::write_readings(to, f, k, n, c, calls::voice(call));
     }
-    replies::write_word(called(f, k, n, c, call));
+    replies::write_word(to, called(f, k, n, c, call))
 }

@@ -7,6 +7,8 @@ use crate::replies::Told;
 use bank::{FramesReading, IdleReading, LevelReading, ParamsReading, StageReading};
 use memory::{Bends, Codes, Counts, Floats};
 use settings::{ACCEPTED, EnvelopeParams, NO_SUCH_VOICE, Stage};
+use std::io;
+use std::io::Write;
 
 fn params_refusal(x: ParamsReading) -> u32 {
     match x {
@@ -109,13 +111,21 @@ fn rest(f: &Floats, k: &Bends, n: &Counts, c: &Codes, voice: usize) -> [u32; 9]
 }
 
 // Everything that is read of a voice.
-pub(crate) fn write_readings(f: &Floats, k: &Bends, n: &Counts, c: &Codes, voice: usize) {
+pub(crate) fn write_readings(
+    to: &mut impl Write,
+    f: &Floats,
+    k: &Bends,
+    n: &Counts,
+    c: &Codes,
+    voice: usize,
+) -> io::Result<()> {
     replies::write_told(
+        to,
         params_refusal(bank::params(f, k, n, c, voice)),
         told(f, k, n, c, voice),
-    );
+    )?;
     let words = rest(f, k, n, c, voice);
     let mut bytes = [0u8; 36];
     replies::put_words(&mut bytes, &words, 9);
-    io::write_all(1, &bytes);
+    to.write_all(&bytes)
 }

@@ -20,6 +20,8 @@
 // process all of its output follows, whatever was written to it. To readings the answer is that of the
 // envelope, with the number that refused the settings' reading; then those of stage, idle, level, tail
 // and lead, and voices and stride (two words each).
+#![tactic(auto)]
+
 mod bank_calls;
 mod bank_replies;
 mod calls;
@@ -31,6 +33,8 @@ ghost use Rattle.std.specs.Prelude.{◌≤◌, length};
 use envelope::Envelope;
 use memory::{BENDS, Bends, CODES, COUNTS, Codes, Counts, FLOATS, Floats};
 use settings::{ACCEPTED, EnvelopeParams};
+use std::io;
+use std::io::{ErrorKind, Read, Write};
 use timing::Timing;
 
 // One frame by `after_frame`, or a block.
@@ -54,7 +58,12 @@ fn note_refusal(params_refused: u32, timing_refused: u32) -> u32 {
 }
 
 // The envelope after a note, which is answered.
-fn note_answered(e: Envelope, call: &[u8], levels: &mut [f32]) -> Envelope
+fn note_answered(
+    to: &mut impl Write,
+    e: Envelope,
+    call: &[u8],
+    levels: &mut [f32],
+) -> io::Result<Envelope>
     requires { (88 ≤ length call.now) × (65536 ≤ length levels.old) }
 {
     let frames = calls::note_frames(call, 65536);
@@ -66,28 +75,35 @@ fn note_answered(e: Envelope, call: &[u8], levels: &mut [f32]) -> Envelope
         calls::timing(call),
     );
     replies::write_reply(
+        to,
         note_refusal(note.params_refused, note.timing_refused),
         note.envelope,
-    );
-    replies::write_levels(levels, frames);
-    replies::write_word(numbers::f32_to_bits(note.level));
-    note.envelope
+    )?;
+    replies::write_levels(to, levels, frames)?;
+    replies::write_word(to, numbers::f32_to_bits(note.level))?;
+    Ok(note.envelope)
 }
 
 // The envelope after a call, which is answered.
-fn envelope_answered(e: Envelope, call: &[u8], levels: &mut [f32]) -> Envelope
+fn envelope_answered(
+    to: &mut impl Write,
+    e: Envelope,
+    call: &[u8],
+    levels: &mut [f32],
+) -> io::Result<Envelope>
     requires { (88 ≤ length call.now) × (65536 ≤ length levels.old) }
 {
     let answer = calls::called(e, call);
     let frames = calls::frames(call, 65536);
     let after = drawn(answer.envelope, call[0], frames, levels);
-    replies::write_reply(answer.refusal, after);
-    replies::write_levels(levels, frames);
-    after
+    replies::write_reply(to, answer.refusal, after)?;
+    replies::write_levels(to, levels, frames)?;
+    Ok(after)
 }
 
 // The envelope after a call on it or on the bank, which is answered.
 fn answered(
+    to: &mut impl Write,
     e: Envelope,
     f: &mut Floats,
     k: &mut Bends,
@@ -95,20 +111,29 @@ fn answered(
     c: &mut Codes,
     call: &[u8],
     levels: &mut [f32],
-) -> Envelope
+) -> io::Result<Envelope>
     requires { (88 ≤ length call.now) × (262144 ≤ length levels.old) }
 {
     if call[0] > 18 {
-        return note_answered(e, call, levels);
+        return note_answered(to, e, call, levels);
     }
     if call[0] > 8 {
-        bank_calls::answer(f, k, n, c, call, levels);
-        return e;
+        bank_calls::answer(to, f, k, n, c, call, levels)?;
+        return Ok(e);
     }
-    envelope_answered(e, call, levels)
+    envelope_answered(to, e, call, levels)
 }
 
-fn main() {
+// Reads until the bytes are full. Whether the input had so many.
+fn read_whole(from: &mut impl Read, bytes: &mut [u8]) -> io::Result<bool> {
+    match from.read_exact(bytes) {
+        Ok(()) => Ok(true),
+        Err(e) if e.kind() == ErrorKind::UnexpectedEof => Ok(false),
+        Err(e) => Err(e),
+    }
+}
+
+fn main(rt: HostRuntime) -> io::Result<()> {
     let mut call = [0u8; 88];
     let mut levels = [0f32; 262144];
     let mut f = [0f32; FLOATS];
@@ -121,10 +146,20 @@ fn main() {
     let mut e = Envelope::fresh(amp, timing).envelope;
     let mut calls: u64 = 0xffff_ffff_ffff_ffff;
     while calls > 0 {
-        if io::read_full(0, &mut call) < 88 {
-            return;
+        if !read_whole(&mut rt.stdin(), &mut call)? {
+            return Ok(());
         }
-        e = answered(e, &mut f, &mut k, &mut n, &mut c, &call, &mut levels);
+        e = answered(
+            &mut rt.stdout(),
+            e,
+            &mut f,
+            &mut k,
+            &mut n,
+            &mut c,
+            &call,
+            &mut levels,
+        )?;
         calls -= 1;
     }
+    Ok(())
 }

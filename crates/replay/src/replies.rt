@@ -4,6 +4,8 @@ ghost use Rattle.replay.specs.Notes as Notes;
 
 use envelope::Envelope;
 use settings::{EnvelopeParams, Stage, StealRestart};
+use std::io;
+use std::io::Write;
 use timing::TimeUnit;
 
 // Byte k of a word, from the lowest.
@@ -111,19 +113,19 @@ fn reply(refusal: u32, t: Told) -> [u32; 22]
     ]
 }
 
-pub(crate) fn write_word(word: u32) {
+pub(crate) fn write_word(to: &mut impl Write, word: u32) -> io::Result<()> {
     let words = [word];
     let mut bytes = [0u8; 4];
     put_words(&mut bytes, &words, 1);
-    io::write_all(1, &bytes);
+    to.write_all(&bytes)
 }
 
 // What is told after the number of a refusal, 22 words with it.
-pub(crate) fn write_told(refusal: u32, t: Told) {
+pub(crate) fn write_told(to: &mut impl Write, refusal: u32, t: Told) -> io::Result<()> {
     let words = reply(refusal, t);
     let mut bytes = [0u8; 88];
     put_words(&mut bytes, &words, 22);
-    io::write_all(1, &bytes);
+    to.write_all(&bytes)
 }
 
 // What is told of an envelope, which is lent to one reading after the other.
@@ -141,12 +143,12 @@ fn readings(e: Envelope) -> Told
 }
 
 // The answer to a call that left the envelope e.
-pub(crate) fn write_reply(refusal: u32, e: Envelope) {
-    write_told(refusal, readings(e));
+pub(crate) fn write_reply(to: &mut impl Write, refusal: u32, e: Envelope) -> io::Result<()> {
+    write_told(to, refusal, readings(e))
 }
 
 // The bits of up to 1024 levels, from levels[from] on.
-fn write_some(levels: &[f32], from: usize, count: usize)
+fn write_some(to: &mut impl Write, levels: &[f32], from: usize, count: usize) -> io::Result<()>
     requires { (count ≤ 1024) × (from + count ≤ length levels.now) }
 {
     let mut words = [0u32; 1024];
@@ -157,19 +159,20 @@ fn write_some(levels: &[f32], from: usize, count: usize)
     }
     let mut bytes = [0u8; 4096];
     put_words(&mut bytes, &words, count);
-    io::write_all(1, &bytes[0..4 * count]);
+    to.write_all(&bytes[0..4 * count])
 }
 
 // The bits of the first `count` levels.
-pub(crate) fn write_levels(levels: &[f32], count: usize)
+pub(crate) fn write_levels(to: &mut impl Write, levels: &[f32], count: usize) -> io::Result<()>
     requires { count ≤ length levels.now }
 {
     let mut done = 0;
     while done < count {
         let some = least(count - done, 1024);
-        write_some(levels, done, some);
+        write_some(to, levels, done, some)?;
         done += some;
     }
+    Ok(())
 }
 
 fn least(a: usize, b: usize) -> usize

@@ -4,7 +4,12 @@
 // A list: its length and the output's length in bytes, four bytes each, the lowest first; then its
 // bytes, at most 16,384. Its answer: the result and the place of the refusal, eight bytes each, then
 // the output, at most 65,536 bytes, in which byte i was i % 251 before the call.
+#![tactic(auto)]
+
 ghost use Rattle.std.specs.Prelude.{◌+◌, ◌≤◌, ◌<◌, length};
+
+use std::io;
+use std::io::{ErrorKind, Read, Write};
 
 fn wide(x: u8) -> u64
     ensures { result < 256 }
@@ -36,7 +41,7 @@ fn fill(out: &mut [u8]) {
 }
 
 // Eight bytes, the lowest first.
-fn write_word(n: u64) {
+fn write_word(to: &mut impl Write, n: u64) -> io::Result<()> {
     let mut bytes = [0u8; 8];
     let mut rest = n;
     let mut i = 0;
@@ -45,7 +50,7 @@ fn write_word(n: u64) {
         rest /= 0x100;
         i += 1;
     }
-    io::write_all(1, &bytes);
+    to.write_all(&bytes)
 }
 
 // The bits of a signed number.
@@ -56,29 +61,39 @@ fn word(n: i64) -> u64 {
     n as u64
 }
 
-fn answer(list: &[u8], out: &mut [u8]) {
+fn answer(to: &mut impl Write, list: &[u8], out: &mut [u8]) -> io::Result<()> {
     fill(out);
     let result = player::play(list, out);
-    write_word(word(result));
-    write_word(player::refused_at(list, out.len()));
-    io::write_all(1, out);
+    write_word(to, word(result))?;
+    write_word(to, player::refused_at(list, out.len()))?;
+    to.write_all(out)
 }
 
-fn main() {
+// Reads until the bytes are full. Whether the input had so many.
+fn read_whole(from: &mut impl Read, bytes: &mut [u8]) -> io::Result<bool> {
+    match from.read_exact(bytes) {
+        Ok(()) => Ok(true),
+        Err(e) if e.kind() == ErrorKind::UnexpectedEof => Ok(false),
+        Err(e) => Err(e),
+    }
+}
+
+fn main(rt: HostRuntime) -> io::Result<()> {
     let mut head = [0u8; 8];
     let mut list = [0u8; 16384];
     let mut out = [0u8; 65536];
     let mut lists: u64 = 0xffff_ffff_ffff_ffff;
     while lists > 0 {
-        if io::read_full(0, &mut head) < 8 {
-            return;
+        if !read_whole(&mut rt.stdin(), &mut head)? {
+            return Ok(());
         }
         let len = length_at(&head, 0, 16384);
         let out_len = length_at(&head, 4, 65536);
-        if io::read_full(0, &mut list[0..len]) < len {
-            return;
+        if !read_whole(&mut rt.stdin(), &mut list[0..len])? {
+            return Ok(());
         }
-        answer(&list[0..len], &mut out[0..out_len]);
+        answer(&mut rt.stdout(), &list[0..len], &mut out[0..out_len])?;
         lists -= 1;
     }
+    Ok(())
 }
