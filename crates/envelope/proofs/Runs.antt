@@ -21,7 +21,7 @@ use Rattle.lane.specs.Planning.{advance}
 use Rattle.lane.specs.Voices as Voices
 use Rattle.lane.proofs.Frames.{frames-from, frames-untimed, frames-inside, frame-last, frames_end}
 use Rattle.envelope.specs.declared.envelopes.Envelope.{Envelope}
-use Rattle.envelope.specs.Envelopes.{level, frame, frames, levels}
+use Rattle.envelope.specs.Envelopes.{frame, frames, levels}
 use Rattle.filled.specs.Filled.{Filled}
 use Rattle.envelope.specs.Parts.{level_after}
 
