@@ -22,7 +22,9 @@ fn printed(list: &[u8]) -> String {
         .stdin(Stdio::piped())
         .stdout(Stdio::piped())
         .spawn()
-        .unwrap_or_else(|error| panic!("{}: {error}: run rt run in crates/play", program.display()));
+        .unwrap_or_else(|error| {
+            panic!("{}: {error}: run rt run in crates/play", program.display())
+        });
     let mut input = child.stdin.take().expect("its input is a pipe");
     input.write_all(list).expect("it reads its whole input");
     drop(input);
