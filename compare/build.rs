@@ -2,11 +2,12 @@
 //! sources, compiles the C functions of the header, and links the static
 //! libraries made from the Rattle.
 //!
-//! `WORFELLI_RUST` names the folder of the Rust's sources and `WORFELLI_LIB`
-//! the folder of the libraries; a relative name is read from this package's
-//! folder (the crate worfelli reads the second one too, from its own). `CC` and
-//! `AR` name the C compiler and the archiver, which are else `cc` and `ar`.
-//! Whatever stands in the way is said in one line.
+//! `WORFELLI_RUST` names the folder of the Rust's sources, and `WORFELLI_LIB` one
+//! folder of both libraries, which are else each where `rt lib` leaves it; a
+//! relative name is read from this package's folder (the crate worfelli reads the
+//! second one too, from its own). `CC` and `AR` name the C compiler and the
+//! archiver, which are else `cc` and `ar`. Whatever stands in the way is said in
+//! one line.
 
 use std::env;
 use std::path::{Path, PathBuf};
@@ -44,7 +45,13 @@ fn prepare() -> Result<(), String> {
     let out = PathBuf::from(env::var_os("OUT_DIR").ok_or("OUT_DIR is not set")?);
     derive::derive(&folder("WORFELLI_RUST", "../../shared/docs/src")?, &out)?;
     c::compile(&out)?;
-    link(&folder("WORFELLI_LIB", "../target/staticlib")?)
+    for name in LIBRARIES {
+        let folder = folder("WORFELLI_LIB", &format!("../crates/{name}/out"))?;
+        find(name, &folder)?;
+        println!("cargo::rustc-link-search=native={}", folder.display());
+    }
+    println!("cargo::rustc-link-lib=static={}", LIBRARIES[0]);
+    Ok(())
 }
 
 /// The folder that `variable` names, or else `default`, as an absolute path.
@@ -55,22 +62,15 @@ fn folder(variable: &str, default: &str) -> Result<PathBuf, String> {
     Ok(Path::new(&package).join(named))
 }
 
-/// Links the libraries in `folder`.
-fn link(folder: &Path) -> Result<(), String> {
-    let file = |name: &str| folder.join(format!("lib{name}.a"));
-    for name in LIBRARIES {
-        println!("cargo::rerun-if-changed={}", file(name).display());
+/// Sees that the library is in `folder`.
+fn find(name: &str, folder: &Path) -> Result<(), String> {
+    let file = folder.join(format!("lib{name}.a"));
+    println!("cargo::rerun-if-changed={}", file.display());
+    if file.is_file() {
+        return Ok(());
     }
-    let missing = LIBRARIES.into_iter().filter(|name| !file(name).is_file());
-    let missing: Vec<String> = missing.map(|name| format!("lib{name}.a")).collect();
-    if !missing.is_empty() {
-        return Err(format!(
-            "no {} in {}: build it first (rt staticlib), or name its folder in WORFELLI_LIB",
-            missing.join(" and no "),
-            folder.display()
-        ));
-    }
-    println!("cargo::rustc-link-search=native={}", folder.display());
-    println!("cargo::rustc-link-lib=static={}", LIBRARIES[0]);
-    Ok(())
+    Err(format!(
+        "no {}: build it first (rt lib --cpu x86-64 in crates/{name}), or name its folder in WORFELLI_LIB",
+        file.display()
+    ))
 }

@@ -1,8 +1,8 @@
 /* Worfelli's envelopes for C hosts: a live bank, called key by key and block by block, and whole event
  * lists, played by one call (docs/FORMAT.md).
  *
- *     rt staticlib worfelli
- *     gcc -std=c99 -O2 -Iinclude host.c target/staticlib/libworfelli.a
+ *     (cd crates/worfelli && rt lib --cpu x86-64)
+ *     gcc -std=c99 -O2 -Iinclude host.c crates/worfelli/out/libworfelli.a
  *
  * x86-64 Linux, System V calling convention. hosts/c/live.c is a live host, hosts/c/host.c plays lists.
  *

@@ -46,10 +46,18 @@ class Refused(Exception):
 def program(name):
     """The path of a program, proved and built first where it is missing or its sources have changed. Without rt,
     the one that is there."""
-    path = HOME / "target" / "bin" / name
+    folder = HOME / "crates" / name
+    path = folder / "out" / name
     try:
+        # rt run builds a program and then runs it: here on no input, and what it prints is not looked at.
         building = subprocess.Popen(
-            ["rt", "check", name], cwd=HOME, stdout=subprocess.PIPE, stderr=subprocess.STDOUT, text=True
+            ["rt", "run"],
+            cwd=folder,
+            stdin=subprocess.DEVNULL,
+            stdout=subprocess.PIPE,
+            stderr=subprocess.STDOUT,
+            text=True,
+            errors="replace",
         )
     except FileNotFoundError:
         if path.exists():
@@ -58,12 +66,15 @@ def program(name):
     if not path.exists():
         _say(f"building {name}: every function that it stands on is proved first, a few minutes, and only this once")
     with building:
-        line = ""
+        line = wrong = crate = ""
         for line in building.stdout:
-            if re.fullmatch(r"rt: \w+ proved \([0-9]+ s\)\n", line):
-                _say(line[4:].rstrip())
+            proved = re.match(r"\w+ (\w+)::.*: proved", line)
+            if proved and proved[1] != crate:
+                crate = proved[1]
+                _say(f"{crate} proved")
+            wrong = wrong or (line if ": error" in line else "")
     if building.returncode != 0:
-        raise EngineError(f"{name} could not be built: {line.rstrip()[:300]}")
+        raise EngineError(f"{name} could not be built: {(wrong or line).rstrip()[:300]}")
     return path
 
 
@@ -77,12 +88,13 @@ def _run(path, given):
     except OSError as wrong:
         raise EngineError(f"{path.name} could not be run: {wrong.strerror}") from None
     if done.returncode != 0:
-        raise EngineError(f"{path.name} stopped with status {done.returncode}")
+        said = done.stderr.decode("utf-8", "replace").splitlines()
+        raise EngineError(f"{path.name} stopped with status {done.returncode}{': ' + said[-1] if said else ''}")
     return done.stdout
 
 
 def _cut_short(path):
-    # A program has no exit status of its own, so a write that failed is seen only by what is missing.
+    # A write that fails ends the program with status 1; no theorem speaks of what is printed, so that is counted too.
     return EngineError(f"{path.name} did not write its whole answer")
 
 

@@ -43,7 +43,7 @@ pub trait Compares {
 pub fn program() -> PathBuf {
     match env::var_os("WORFELLI_REPLAY") {
         Some(named) => named.into(),
-        None => Path::new(env!("CARGO_MANIFEST_DIR")).join("../target/bin/replay"),
+        None => Path::new(env!("CARGO_MANIFEST_DIR")).join("../crates/replay/out/replay"),
     }
 }
 

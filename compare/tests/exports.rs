@@ -28,7 +28,7 @@ fn shown(name: &str, arguments: &[&str], result: &str) -> String {
 /// The exported functions of `source`.
 fn exported(source: &str) -> Vec<String> {
     source
-        .split("#[no_mangle]\npub extern \"C\" fn ")
+        .split("#[unsafe(no_mangle)]\npub extern \"C\" fn ")
         .skip(1)
         .map(|rest| {
             let (name, rest) = rest.split_once('(').expect("a list of parameters");

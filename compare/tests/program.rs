@@ -17,12 +17,14 @@ const MOST: usize = 16_384;
 
 /// What `play` prints for a list.
 fn printed(list: &[u8]) -> String {
-    let program = Path::new(env!("CARGO_MANIFEST_DIR")).join("../target/bin/play");
+    let program = Path::new(env!("CARGO_MANIFEST_DIR")).join("../crates/play/out/play");
     let mut child = Command::new(&program)
         .stdin(Stdio::piped())
         .stdout(Stdio::piped())
         .spawn()
-        .unwrap_or_else(|error| panic!("{}: {error}: run rt check play", program.display()));
+        .unwrap_or_else(|error| {
+            panic!("{}: {error}: run rt run in crates/play", program.display())
+        });
     let mut input = child.stdin.take().expect("its input is a pipe");
     input.write_all(list).expect("it reads its whole input");
     drop(input);

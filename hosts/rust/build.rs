@@ -4,8 +4,8 @@
 use std::env;
 use std::path::PathBuf;
 
-/// Where `rt staticlib` puts the library.
-const DEFAULT: &str = "../../target/staticlib";
+/// Where `rt lib` leaves the library.
+const DEFAULT: &str = "../../crates/worfelli/out";
 
 fn main() {
     println!("cargo::rerun-if-changed=build.rs");
@@ -17,8 +17,8 @@ fn main() {
     if !library.is_file() {
         // No error: what links nothing, as check, doc and clippy, works without the library.
         println!(
-            "cargo::warning=no {}, so nothing can be linked: run `rt staticlib worfelli` in the \
-             repository's folder, or name the library's folder in WORFELLI_LIB",
+            "cargo::warning=no {}, so nothing can be linked: run `rt lib --cpu x86-64` in the \
+             repository's crates/worfelli, or name the library's folder in WORFELLI_LIB",
             library.display()
         );
     }

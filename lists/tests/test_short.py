@@ -58,10 +58,24 @@ class Short(unittest.TestCase):
             with self.assertRaisesRegex(engine.EngineError, "^replay did not write its whole answer$"):
                 engine.moments(self.program("replay", bytes(length)), SAMPLE, [0], 1)
 
+    def test_programs_that_fail(self):
+        path = self.folder / "play"
+        for end, said in (
+            ("echo Error: full >&2; exit 1", "play stopped with status 1: Error: full"),
+            ("exit 3", "play stopped with status 3"),
+        ):
+            path.write_text(f"#!/bin/sh\ncat > /dev/null\necho 0 3f800000\n{end}\n")
+            path.chmod(0o755)
+            with self.assertRaises(engine.EngineError) as raised:
+                engine.play(path, SAMPLE)
+            self.assertEqual(str(raised.exception), said)
+
     def test_status_where_nothing_can_be_written(self):
         play = engine.program("play")
         with open("/dev/full", "wb") as full:
-            self.assertEqual(subprocess.run([play], input=SAMPLE, stdout=full, check=False).returncode, 0)
+            done = subprocess.run([play], input=SAMPLE, stdout=full, stderr=subprocess.PIPE, check=False)
+            self.assertEqual(done.returncode, 1)
+            self.assertIn(b"No space left on device", done.stderr)
             done = subprocess.run(
                 [HOME / "worfelli", "play", HOME / "examples" / "sample.list"],
                 stdout=full,

@@ -19,7 +19,7 @@ Prints each difference, what the lists reached, the cases of each subject and
 their sum; the status is 1 on any difference, and where something was never
 reached (a few hundred lists reach everything).
 WORFELLI_REPLAY names the program, read from the present folder; else it is
-target/bin/replay of the repository.
+crates/replay/out/replay of the repository.
   --seed N    what the random lists follow from, decimal or 0x hexadecimal
   --cases N   random lists, beside the fixed ones";
 

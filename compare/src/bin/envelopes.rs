@@ -19,7 +19,7 @@ fixed and random lists of calls. Prints each difference, what the lists
 reached, the cases of each subject and their sum; the status is 1 on any
 difference, and where a stage never met some call (a few hundred lists do).
 WORFELLI_REPLAY names the program, read from the present folder; else it is
-target/bin/replay of the repository.
+crates/replay/out/replay of the repository.
   --seed N    what the random lists follow from, decimal or 0x hexadecimal
   --cases N   random lists, beside the fixed ones
   --write DIR alone: compares nothing, and writes the calls of the short fixed
