@@ -11,7 +11,7 @@ use borrow.Author.Tests.{lt-ltb, le-ltb}
 use borrow.Rule.Slice.PartMut.{mid_of, put_mid}
 use lib.Dec.{ltb}
 use lib.Ieee.{Float, nan}
-use lib.ListN.{length, get_or, take, drop, length-append, length-drop}
+use lib.ListN.{length, get_or, take, length-append, length-drop}
 use lib.Seq.{get_or-drop, length-take-le}
 use Rattle.numbers.specs.Constants as Constants
 use Rattle.timing.specs.declared.Timing.{Timing}
@@ -26,7 +26,7 @@ use Rattle.filled.proofs.Tables.{tabulate_ext}
 use Rattle.envelope.specs.Parts.{level_after}
 use Rattle.envelope.proofs.Runs.{level_at, level-within}
 use Rattle.memory.specs.Spaced.{place}
-use Rattle.memory.specs.Memory.{Arrays, arrays, lanes, voices_at, count_of, timing_at, columns_at, floats_at, u_at, r_at, d_at, scale_at, base_at, left_at, bends_at, counts_at, codes_at, voice_of, voice_at, Same}
+use Rattle.memory.specs.Memory.{Arrays, arrays, voices_at, count_of, timing_at, columns_at, floats_at, u_at, r_at, d_at, scale_at, base_at, left_at, bends_at, counts_at, codes_at, voice_of, voice_at, Same}
 use Rattle.memory.proofs.Storing.{voice-same, same_self, same_trans}
 use Rattle.rows.specs.Strides.{groups_of, stride_of}
 use Rattle.rows.specs.Rows.{moved_at, drawn_at, fitting, Cleared, Drawn}
@@ -36,12 +36,12 @@ use Rattle.rows.proofs.Places.{Told}
 use Rattle.rows.proofs.RowsDrawn.{row_fits, run_fits}
 use Rattle.rows.proofs.SpareLanes.{silent-level, silent-drawn}
 use Rattle.rows.proofs.WithinRuns.{until_end_some, until_end_inside}
-use Rattle.bank.specs.Banks.{Bank, bank_of, size, voice, frames}
+use Rattle.bank.specs.Banks.{bank_of, frames}
 use Rattle.bank.specs.Lent.{KeptFrom, Silenced, Processed}
 use Rattle.bank.specs.Parts.{passed, Spread}
 use Rattle.bank.proofs.Frames.{frames-size, frames-timing, voice-frames}
 use Rattle.bank.proofs.Held.{size_of, voice_of_lem, timing_of_lem, held}
-use Rattle.bank.proofs.Runs.{counted, run-whole, left_of}
+use Rattle.bank.proofs.Runs.{run-whole, left_of}
 
 -- ---- the arrays
 

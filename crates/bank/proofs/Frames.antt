@@ -9,7 +9,7 @@ use native.Mathlib.Nat.{zero-mul, zero-add, suc-add, not-suc-le-zero, le_of_suc-
 use borrow.Author.Tests.{eqb-true, eqb-false}
 use lib.Dec.{ltb, eqb}
 use lib.Ieee.{Float, nan}
-use lib.ListN.{length, get_or, set, length-append, length-map, length-set, get_or-append, get_or-map}
+use lib.ListN.{length, get_or, length-append, length-map, length-set, get_or-append, get_or-map}
 use lib.Seq.{ext_get_or, get_or-append-add, get_or-set_same, get_or-set_other}
 use Rattle.numbers.specs.Constants as Constants
 use Rattle.timing.specs.declared.Timing.{Timing}

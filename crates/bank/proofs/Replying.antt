@@ -1,6 +1,5 @@
 -- What a reading of one voice replies: of a voice that there is, and of one that there is not.
 use mathlib.Core.Path.{◌≡◌, sym, ap, ◌∙◌}
-use mathlib.Core.Bool.{cond}
 use Prim.Native.Nat.{ℕ, ◌≤◌, ◌<◌}
 use native.Mathlib.Omega.{arith}
 use borrow.Author.Tests.{lt-ltb, le-ltb}
@@ -10,7 +9,7 @@ use Rattle.memory.specs.Memory.{Arrays, count_of, timing_at, voice_at}
 use Rattle.bank.specs.Calls.{Call, Query, named, refusal, query_refusal}
 use Rattle.bank.specs.Banks.{bank_of, size, known, envelope}
 use Rattle.bank.specs.Replies.{Reply, told, reply}
-use Rattle.bank.proofs.Held.{size_of, voice_of_lem, timing_of_lem}
+use Rattle.bank.proofs.Held.{size_of, voice_of_lem}
 
 -- Voice v of the arrays as a single envelope.
 abbrev pub envelope_at : Arrays → ℕ → Envelope

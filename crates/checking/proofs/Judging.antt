@@ -1,14 +1,14 @@
 -- One record: what its tests come to.
 use mathlib.Core.Path.{◌≡◌, refl, sym, ap, ap₂, ◌∙◌, subst}
 use mathlib.Core.Bool.{Bool, true, false, cond}
-use Prim.Native.Nat.{ℕ, zero, suc, ◌+◌, ◌*◌, ◌/◌, ◌<◌, ◌≤◌, min}
+use Prim.Native.Nat.{ℕ, ◌+◌, ◌*◌, ◌/◌, ◌<◌, ◌≤◌, min}
 use native.Mathlib.Omega.{arith}
 use native.Mathlib.Nat.{div-lt_iff_lt-mul, le-div_iff_mul-le}
 use borrow.Author.Tests.{lt-ltb, le-ltb, ltb-false}
 use lib.Dec.{ltb}
 use Rattle.memory.specs.Memory.{max_voices}
 use Rattle.bank.specs.declared.known.Known.{Known}
-use Rattle.bank.specs.Calls.{if_accepted, opening_refusal}
+use Rattle.bank.specs.Calls.{opening_refusal}
 use Rattle.rows.specs.Strides.{stride_of}
 use Rattle.settings.specs.Refusals as Refusals
 use Rattle.events.specs.declared.Event.{Event}

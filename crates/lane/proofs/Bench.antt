@@ -6,7 +6,6 @@ use lib.Ieee.{fin, round, neg, add, sub, mul, div, lt, le, eq, is_nan, of_bits, 
 use Rattle.numbers.specs.Constants.{zero}
 use Rattle.numbers.specs.Limits.{unit, clamp, max}
 use Rattle.numbers.specs.Conversions.{narrow, round_u64}
-use Rattle.timing.specs.Clock as Clock
 use Rattle.timing.specs.Samples.{seconds, product, samples}
 use Rattle.curve.specs.Segments.{level, next_u}
 use Rattle.curve.specs.Curves.{bend, progress, time_at, at, is_straight, straight, bent, segment}

@@ -1,6 +1,5 @@
 -- Tail and lead, which document 01 adds.
 use Rattle.std.specs.Prelude.{ℕ, zero, suc, ◌+◌, ◌-◌, cond, Float}
-use Rattle.numbers.specs.Constants as Constants
 use Rattle.numbers.specs.Counts.{held}
 use Rattle.timing.specs.declared.Timing.{Timing}
 use Rattle.timing.specs.Samples.{samples}

@@ -1,5 +1,5 @@
 -- The calls of one voice, as lane.rs has them, and one frame.
-use Rattle.std.specs.Prelude.{ℕ, zero, suc, ◌+◌, ◌-◌, Bool, true, false, cond, not, ◌&&◌, leb, eqb, Float}
+use Rattle.std.specs.Prelude.{ℕ, zero, suc, ◌+◌, ◌-◌, Bool, false, cond, not, ◌&&◌, leb, eqb, Float}
 use Rattle.numbers.specs.Constants as Constants
 use Rattle.numbers.specs.Limits.{unit}
 use Rattle.numbers.specs.Counts.{held}
@@ -12,7 +12,6 @@ use Rattle.settings.specs.declared.settings.StealRestart.TheVariants.{CurrentLev
 use Rattle.settings.specs.declared.settings.Trigger.{Trigger}
 use Rattle.settings.specs.declared.settings.Trigger.TheVariants.{New, Retrigger, Legato}
 use Rattle.settings.specs.declared.stages.Stage.TheVariants.{Idle, Delay, Release}
-use Rattle.lane.specs.declared.lanes.Lane.{Lane}
 use Rattle.lane.specs.declared.lanes.Voice.{Voice}
 use Rattle.settings.specs.Stages.{next, holds, is_idle, is_released}
 use Rattle.lane.specs.Planning.{spec, same, hold, begin, enter, advance}

@@ -1,14 +1,14 @@
 -- Storing a voice: the arrays then hold it, and every other number is as before (the frame condition, `Same`). Each number of a voice has its place
 -- and no two share one, which is linear arithmetic over the places; and each code is read back as what it stands for.
 use mathlib.Core.Path.{◌≡◌, refl, sym, ap, ◌∙◌, subst}
-use mathlib.Core.Bool.{Bool, true, false, cond}
+use mathlib.Core.Bool.{Bool, true, false}
 use mathlib.Core.List.{List, [], ◌∷◌}
 use mathlib.Core.Logic.{◌≢◌}
 use Prim.Native.Nat.{ℕ, ◌+◌, ◌*◌, ◌≤◌, ◌<◌}
 use native.Mathlib.Omega.{arith}
 use borrow.Author.Tests.{lt-ltb}
 use lib.Ieee.{Float, nan}
-use lib.ListN.{length, get_or, set, length-set}
+use lib.ListN.{length, get_or, set}
 use lib.Seq.{get_or-set_same, get_or-set_other}
 use Rattle.timing.specs.declared.Timing.{Timing}
 use Rattle.timing.specs.declared.TimeUnit.{TimeUnit}
@@ -23,7 +23,7 @@ use Rattle.lane.specs.declared.lanes.Lane.{Lane}
 use Rattle.lane.specs.declared.lanes.Voice.{Voice}
 use Rattle.memory.specs.Spaced.{spaced, puts}
 use Rattle.memory.specs.Memory.{Arrays, arrays, unit_of, unit_code, restart_of, restart_code, flag_of, flag_code, stage_of, stage_code}
-use Rattle.memory.specs.Memory.{columns_at, left_at, floats_at, bends_at, counts_at, codes_at, voices_at, timing_at, Sized, TimingPut, VoicesPut, bends_length, codes_length}
+use Rattle.memory.specs.Memory.{Sized, TimingPut, VoicesPut, bends_length, codes_length}
 use Rattle.memory.specs.Memory.{params_of, lane_of, segment_of, voice_of, floats_of, voice_at, if_room, Same, Stored}
 use Rattle.memory.proofs.Spaced.{length-puts, puts-kept, spaced-stored, spaced-kept}
 

@@ -13,8 +13,8 @@ use Rattle.lane.specs.Planning as Planning
 use Rattle.memory.specs.Memory.{Arrays}
 use Rattle.rows.specs.Strides.{stride_of}
 use Rattle.bank.specs.declared.known.Known.{Known}
-use Rattle.bank.specs.Calls.{Call, if_accepted, opening_refusal, opened, refusal}
-use Rattle.bank.specs.Banks.{Bank, bank_of, size, known, envelope, frames, rows, new, moved, answer, bytes, bytes_refusal, after_bytes, written_bytes}
+use Rattle.bank.specs.Calls.{Call, if_accepted, opened, refusal}
+use Rattle.bank.specs.Banks.{Bank, bank_of, size, known, envelope, frames, rows, new, answer, bytes, bytes_refusal, after_bytes, written_bytes}
 use Rattle.bank.specs.Replies.{Reply, answered, reply}
 use Rattle.bank.proofs.Accepted.{whole, block-frames}
 use Rattle.bank.proofs.Bytes.{length-bytes}

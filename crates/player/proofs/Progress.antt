@@ -27,7 +27,7 @@ use Rattle.events.specs.Format as Format
 use Rattle.events.proofs.Records.{read_next}
 use Rattle.checking.specs.declared.Checked.{Checked}
 use Rattle.checking.specs.Deeds.{deed, frames_of}
-use Rattle.checking.specs.Checks.{start, passed, judged, met, checked_from, checked}
+use Rattle.checking.specs.Checks.{start, judged, met, checked_from, checked}
 use Rattle.checking.proofs.Passing.{one_more, some, refused_none, still, Accepted, judged-accepted}
 use Rattle.player.specs.Playing.{if_record, events_from, unopened, after, handed, heard, level_bytes, put}
 use Rattle.player.proofs.Doing.{far, handed-rows, passed-far, levels-more}

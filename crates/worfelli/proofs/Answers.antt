@@ -1,5 +1,5 @@
 -- A call over C answers what the bank's own does if each code is named, and else 10, and leaves all as it was.
-use mathlib.Core.Path.{◌≡◌, refl, sym, ap, ◌∙◌, subst}
+use mathlib.Core.Path.{◌≡◌, refl, sym, subst}
 use mathlib.Core.Bool.{Bool, true, false}
 use Prim.Native.Nat.{ℕ}
 use Rattle.numbers.specs.Constants as Constants

@@ -3,11 +3,10 @@
 use mathlib.Core.Path.{◌≡◌, refl, ap, ◌∙◌}
 use mathlib.Core.Bool.{Bool, true, false}
 use mathlib.Core.List.{List, [], ◌∷◌}
-use Prim.Native.Nat.{ℕ, ◌<◌}
 use Rattle.bank.specs.Calls.{Opening, Call}
 use Rattle.bank.specs.Banks as Banks
 use Rattle.bank.specs.Banks.{Bank}
-use Rattle.histories.specs.Demand.{run, bank_after, history_of, envelope_of, voices_of}
+use Rattle.histories.specs.Demand.{run, bank_after}
 use Rattle.histories.proofs.Demand.{demand3}
 use Rattle.worfelli.specs.Live.{HostCall, answer, after, named_only, Heard}
 

@@ -1,5 +1,4 @@
 use mathlib.Core.Path.{◌≡◌}
-use Prim.Native.Nat.{◌-◌}
 use lib.ListN.{length}
 use Rattle.checking.specs.Checks.{start, checked_from}
 use Rattle.checking.proofs.Passing.{Held}

@@ -2,7 +2,7 @@
 -- Nothing is claimed where the flag is not set.
 use mathlib.Core.Path.{◌≡◌}
 use mathlib.Core.Bool.{true}
-use Prim.Native.Nat.{◌+◌, ◌-◌}
+use Prim.Native.Nat.{◌+◌}
 use native.Mathlib.Omega.{arith}
 use lib.Ieee.{nan, eq}
 use lib.ListN.{get_or}

@@ -1,7 +1,7 @@
 -- `all_plus_zero`, a loop without early exit. Invariant: if the flag is still set, the first i numbers are +0; measure: 16 - i. A step is `all_more`.
 -- Nothing is claimed where the flag is not set.
 use mathlib.Core.Path.{◌≡◌}
-use Prim.Native.Nat.{◌+◌, ◌-◌}
+use Prim.Native.Nat.{◌+◌}
 use native.Mathlib.Omega.{arith}
 use lib.Ieee.{nan}
 use lib.ListN.{get_or}

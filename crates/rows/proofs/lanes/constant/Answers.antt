@@ -1,7 +1,7 @@
 -- `constant`: where d equals 0, r equals 1 and u is +0 in all sixteen lanes, a row leaves u as it is (`still_of_tests`). An answer of `false` claims
 -- nothing.
 use lib.Ieee.{of_bits}
-use Rattle.rows.proofs.Flags.{un_not, not_true}
+use Rattle.rows.proofs.Flags.{not_true}
 use Rattle.rows.proofs.LanesMoved.{still_of_tests}
 use Rattle.rows.proofs.lanes.constant.Goals as goal
 

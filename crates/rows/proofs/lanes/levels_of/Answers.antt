@@ -1,6 +1,5 @@
 -- `levels_of` meets its contract. The loop's invariant: the first i levels are those of the lanes.
 use mathlib.Core.Path.{refl}
-use Prim.Native.Nat.{◌-◌}
 use native.Mathlib.Omega.{arith}
 use lib.Ieee.{nan}
 use Rattle.filled.proofs.Filling.{filled_none, filled_more}

@@ -1,6 +1,5 @@
 -- `load`: sixteen numbers of the array, copied. Invariant: the first i are those from `from` on; measure: 16 - i. A step is `filled_more`.
 use mathlib.Core.Path.{refl}
-use Prim.Native.Nat.{◌-◌}
 use native.Mathlib.Omega.{arith}
 use lib.Ieee.{nan}
 use Rattle.filled.proofs.Filling.{filled_none, filled_more}

@@ -1,6 +1,6 @@
 -- `next_row` meets its contract. The loop's invariant: the first i levels are drawn, and u is one row on in the first i lanes.
 use mathlib.Core.Path.{◌≡◌, refl, ap, subst}
-use Prim.Native.Nat.{ℕ, ◌-◌}
+use Prim.Native.Nat.{ℕ}
 use native.Mathlib.Omega.{arith}
 use lib.Ieee.{Float, nan, binary32, add, mul}
 use lib.ListN.{get_or}

@@ -1,7 +1,7 @@
 -- `count_each`: a run is taken off what each segment has left. Invariant: it is taken off the first i, and the rest of the array is as before;
 -- measure: the voices left. One store is `filled_more`: the count that it reads is the old one, by the frame condition.
 use mathlib.Core.Path.{◌≡◌, ap, ◌∙◌, subst}
-use Prim.Native.Nat.{ℕ, ◌-◌}
+use Prim.Native.Nat.{ℕ}
 use native.Mathlib.Omega.{arith}
 use lib.ListN.{get_or}
 use Rattle.filled.specs.Filled.{Filled}

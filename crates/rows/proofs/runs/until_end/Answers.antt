@@ -1,7 +1,7 @@
 -- `until_end`: the frames until the first segment ends. Invariant: `run` is `until_end` of the first v voices, and what each of these has left is at
 -- most the largest count; measure: the voices left. A step is the definition's own clause.
 use mathlib.Core.Path.{◌≡◌, refl, ap, ap₂, ◌∙◌, subst}
-use Prim.Native.Nat.{ℕ, ◌-◌, min}
+use Prim.Native.Nat.{ℕ, min}
 use native.Mathlib.Omega.{arith}
 use native.Mathlib.Numerals.{add-one}
 use borrow.Author.Count.{below_more}

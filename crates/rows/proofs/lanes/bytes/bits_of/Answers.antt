@@ -1,7 +1,6 @@
 -- `bits_of`: the bit patterns of sixteen levels. Invariant: the first i are computed; measure: 16 - i. A step is `filled_more`, with what
 -- `f32_to_bits` ensures.
 use mathlib.Core.Path.{refl}
-use Prim.Native.Nat.{◌-◌}
 use native.Mathlib.Omega.{arith}
 use Rattle.filled.proofs.Filling.{filled_none, filled_more}
 use borrow.Author.Rules.{rules}

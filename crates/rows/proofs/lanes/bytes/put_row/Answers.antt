@@ -1,7 +1,7 @@
 -- `put_row` in bytes: sixteen levels, four bytes each. Invariant: the first 4 × i bytes are those of the first i levels, the others as before;
 -- measure: 16 - i. Four bytes more are `bytes-more`.
 use mathlib.Core.Path.{◌≡◌, ap, ◌∙◌, subst}
-use Prim.Native.Nat.{ℕ, ◌*◌, ◌-◌}
+use Prim.Native.Nat.{ℕ, ◌*◌}
 use native.Mathlib.Omega.{arith}
 use lib.Ieee.{nan, binary32, to_bits}
 use lib.ListN.{get_or}

@@ -1,7 +1,7 @@
 -- `put_row_bits`: sixteen numbers, four bytes each. Invariant: the first 4 × i bytes are those of the first i numbers, the others as before; measure:
 -- 16 - i. Four bytes more are `bytes-more`.
 use mathlib.Core.Path.{◌≡◌, subst}
-use Prim.Native.Nat.{ℕ, ◌*◌, ◌-◌}
+use Prim.Native.Nat.{ℕ, ◌*◌}
 use native.Mathlib.Omega.{arith}
 use lib.ListN.{get_or}
 use Rattle.filled.specs.Filled.{Filled}

@@ -1,6 +1,6 @@
 -- `draw_block` meets its contract. The loop's invariant: the first q groups are drawn.
 use mathlib.Core.Path.{◌≡◌, ◌∙◌, subst}
-use Prim.Native.Nat.{ℕ, ◌-◌, ◌*◌}
+use Prim.Native.Nat.{ℕ, ◌*◌}
 use native.Mathlib.Omega.{arith}
 use lib.Ieee.{nan}
 use Rattle.rows.specs.Rows.{float_cell}

@@ -1,7 +1,7 @@
 -- `put_row`: sixteen levels into sixteen floats. Invariant: the first i are stored and the rest of the row is as before; measure: 16 - i. One store
 -- is `filled_more`.
 use mathlib.Core.Path.{◌≡◌, refl, subst}
-use Prim.Native.Nat.{ℕ, ◌-◌}
+use Prim.Native.Nat.{ℕ}
 use native.Mathlib.Omega.{arith}
 use lib.Ieee.{nan}
 use lib.ListN.{get_or}

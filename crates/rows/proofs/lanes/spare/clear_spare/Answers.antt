@@ -1,7 +1,7 @@
 -- `clear_spare`: the lanes of the last group that are no voices become silent. Invariant: those from the first spare lane up to w are silent, and
 -- every other number is kept; measure: the lanes from w to the stride. The five stores of a turn are `cleared_more`.
 use mathlib.Core.Path.{◌≡◌, subst}
-use Prim.Native.Nat.{ℕ, ◌-◌, ◌*◌, ◌≤◌, min}
+use Prim.Native.Nat.{ℕ, ◌*◌, ◌≤◌, min}
 use native.Mathlib.Omega.{arith}
 use lib.Ieee.{of_bits}
 use Rattle.memory.specs.Memory.{max_voices}
