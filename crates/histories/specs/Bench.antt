@@ -11,7 +11,7 @@ use Rattle.timing.specs.Clock as Clock
 use Rattle.timing.specs.Clock.{with_tempo, with_scale}
 use Rattle.timing.specs.Samples.{samples}
 use Rattle.settings.specs.declared.stages.Stage.TheVariants.{Attack, Decay, Sustain}
-use Rattle.lane.specs.Planning.{new, spec, join_attack, advance}
+use Rattle.lane.specs.Planning.{spec, join_attack, advance}
 use Rattle.lane.specs.Readings.{rest}
 use Rattle.lane.specs.Bench.{clock, settings, long, decaying, replanned, three_eighths}
 use Rattle.rows.specs.Strides.{stride_of}
