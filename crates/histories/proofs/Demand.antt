@@ -1,5 +1,6 @@
 -- Demand 3, put together.
 use mathlib.Core.Path.{◌≡◌, refl, sym, ap, ◌∙◌}
+use mathlib.Core.Bool.{false}
 use mathlib.Core.Logic.{◌≢◌}
 use mathlib.Core.List.{List, [], ◌∷◌, ◌++◌}
 use Prim.Native.Nat.{ℕ, ◌<◌}
@@ -7,6 +8,7 @@ use native.Mathlib.Omega.{arith}
 use borrow.Author.Tests.{lt-ltb, eq-eqb}
 use Rattle.settings.specs.declared.settings.Trigger.{Trigger}
 use Rattle.settings.specs.declared.settings.Trigger.TheVariants.{New}
+use Rattle.lane.specs.Voices.{leaves_alone}
 use Rattle.envelope.specs.Envelopes as Envelopes
 use Rattle.bank.specs.declared.known.Known.{Known}
 use Rattle.bank.specs.Calls.{Opening, Call, opening_refusal, refusal}
@@ -14,7 +16,7 @@ use Rattle.bank.specs.Banks.{Bank, known, moved, answer, new}
 use Rattle.bank.proofs.Accepted.{if_refused}
 use Rattle.histories.specs.Demand.{Entry, History, more, frames_more, envelope_of, level_of, settings_of, timing_of}
 use Rattle.histories.specs.Demand.{effect, Reading, history, grown, read, first_reading, reading, history_of}
-use Rattle.histories.specs.Demand.{bank_after, envelope_at, stage_at, voices_of, block, stage_after, OneList, TwoLists, NoteInBank, Demand3}
+use Rattle.histories.specs.Demand.{bank_after, envelope_at, stage_at, voices_of, block, stage_after, note_stage, OneList, TwoLists, NoteInBank, Demand3}
 use Rattle.histories.proofs.Lists.{run-append}
 use Rattle.histories.proofs.Stands.{fresh-stands, stands, reading-voices, bank-voices}
 use Rattle.histories.proofs.Answers.{replies-due}
@@ -86,25 +88,40 @@ trigger-read : (r : Reading) (v : ℕ) (x : Trigger) → v < r.known.voices
 unfolding read refusal effect
 trigger-read r v x h = (rw (lt-ltb v r.known.voices h), rw (lt-ltb v r.known.voices h, eq-eqb v v refl))
 
-note-history : (o : Opening) (cs : List Call) (v k : ℕ) → v < voices_of o
-    → history_of o (cs ++ Call.trigger v New ∷ block o k ∷ []) v ≡ frames_more k (more (history_of o cs v) (Entry.trigger New ∷ []))
+note-history : (o : Opening) (cs : List Call) (v k : ℕ) (x : Trigger) → v < voices_of o
+    → history_of o (cs ++ Call.trigger v x ∷ block o k ∷ []) v ≡ frames_more k (more (history_of o cs v) (Entry.trigger x ∷ []))
 unfolding reading
-note-history o cs v k h =
+note-history o cs v k x h =
     let r = reading o cs in
-    let r₁ = read r (Call.trigger v New) in
+    let r₁ = read r (Call.trigger v x) in
     let n : r.known.voices ≡ voices_of o = reading-voices o cs in
-    let t = trigger-read r v New (omega (arith, n)) in
+    let t = trigger-read r v x (omega (arith, n)) in
     ap (λ (r : Reading). history r v)
-    (run-append read (first_reading o) cs (Call.trigger v New ∷ block o k ∷ [])
+    (run-append read (first_reading o) cs (Call.trigger v x ∷ block o k ∷ [])
     ∙ block_read r₁ (voices_of o) k (ap (λ (k : Known). k.voices) t.0 ∙ n))
     ∙ ap (frames_more k) t.1
 
 note_in_bank : (o : Opening) (cs : List Call) (v k : ℕ) → v < voices_of o → NoteInBank o cs v k
-note_in_bank o cs v k h = record { newNote = among (cs ++ Call.trigger v New ∷ block o k ∷ []) (note-history o cs v k h); among = among }
+note_in_bank o cs v k h =
+    record {
+      note = λ x s. note_among x s (cs ++ Call.trigger v x ∷ block o k ∷ []) (note-history o cs v k x h);
+      note_among = note_among;
+      new_note = among (cs ++ Call.trigger v New ∷ block o k ∷ []) (note-history o cs v k New h);
+      among = among;
+    }
   where
+    -- The bank's stage is that of the history, whose lengths are known.
+    stage_of : (later : List Call) (g : History) → history_of o later v ≡ g → stage_at o later v ≡ Envelopes.stage (envelope_of g)
+    stage_of later g e = (one_list o later).stage v h ∙ ap (λ (h : History). Envelopes.stage (envelope_of h)) e
+
+    note_among : (x : Trigger) → leaves_alone x (envelope_of (history_of o cs v)).voice ≡ false
+        → (later : List Call) → history_of o later v ≡ frames_more k (more (history_of o cs v) (Entry.trigger x ∷ []))
+        → stage_at o later v ≡ note_stage (history_of o cs v) x k
+    note_among x s later e = stage_of later _ e ∙ (note-lengths (history_of o cs v) k).stage x s
+
     among : (later : List Call) → history_of o later v ≡ frames_more k (more (history_of o cs v) (Entry.trigger New ∷ []))
         → stage_at o later v ≡ stage_after (settings_of (history_of o cs v)) (timing_of (history_of o cs v)) 0 k
-    among later e = (one_list o later).stage v h ∙ ap (λ (h : History). Envelopes.stage (envelope_of h)) e ∙ (note-lengths (history_of o cs v) k).newNote
+    among later e = stage_of later _ e ∙ (note-lengths (history_of o cs v) k).new_note
 
 pub demand3 : Demand3
 demand3 = record { one = one_list; two = two_lists; cut = cut-block; notes = note-lengths; played = note_in_bank }

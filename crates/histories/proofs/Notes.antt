@@ -63,7 +63,7 @@ unfolding place leaves_alone note_level
 note-lengths h k =
     record {
       stage = after;
-      newNote = after New refl ∙ ap (λ (n : ℕ). stage_after (settings_of h) (timing_of h) n k) first;
+      new_note = after New refl ∙ ap (λ (n : ℕ). stage_after (settings_of h) (timing_of h) n k) first;
     }
   where
     e : Envelope

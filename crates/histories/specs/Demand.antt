@@ -296,6 +296,10 @@ stage_after p t at k =
     (samples t p.decay p.unit)
     k
 
+-- The same by a history's settings and timing, after a trigger whose attack joins its curve at the level that the envelope restarts from.
+abbrev pub note_stage : History → Trigger → ℕ → Stage
+note_stage h x k = stage_after (settings_of h) (timing_of h) (place (settings_of h) (timing_of h) (note_level x (envelope_of h).voice)) k
+
 -- A note after a history, and k frames more. 'Counted samples are of the stage's time by the history's settings and timing at the new note.'
 pub record NoteLengths (h : History) (k : ℕ) : Type 0 where
   -- A trigger that starts the stages over from Delay.
@@ -304,15 +308,23 @@ pub record NoteLengths (h : History) (k : ℕ) : Type 0 where
       → Envelopes.stage (envelope_of (frames_more k (more h (Entry.trigger x ∷ []))))
       ≡ stage_after (settings_of h) (timing_of h) (place (settings_of h) (timing_of h) (note_level x (envelope_of h).voice)) k
   -- A new note: its attack begins at place 0.
-  pub newNote :
+  pub new_note :
       Envelopes.stage (envelope_of (frames_more k (more h (Entry.trigger New ∷ [])))) ≡ stage_after (settings_of h) (timing_of h) 0 k
 
--- A new note of the voice v after these calls, in the bank.
+-- A note of the voice v after these calls, in the bank.
 pub record NoteInBank (o : Opening) (cs : List Call) (v k : ℕ) : Type 0 where
-  -- Followed by a block of k frames.
-  pub newNote :
-      stage_at o (cs ++ Call.trigger v New ∷ block o k ∷ []) v ≡ stage_after (settings_of (history_of o cs v)) (timing_of (history_of o cs v)) 0 k
+  -- A trigger that starts the stages over from Delay, followed by a block of k frames.
+  pub note :
+      (x : Trigger) → leaves_alone x (envelope_of (history_of o cs v)).voice ≡ false
+      → stage_at o (cs ++ Call.trigger v x ∷ block o k ∷ []) v ≡ note_stage (history_of o cs v) x k
   -- And after any calls whose history is that note and k frames more: whatever the other voices are sent, and however the frames are cut.
+  pub note_among :
+      (x : Trigger) → leaves_alone x (envelope_of (history_of o cs v)).voice ≡ false
+      → (later : List Call) → history_of o later v ≡ frames_more k (more (history_of o cs v) (Entry.trigger x ∷ []))
+      → stage_at o later v ≡ note_stage (history_of o cs v) x k
+  -- A new note, both ways: its attack begins at place 0.
+  pub new_note :
+      stage_at o (cs ++ Call.trigger v New ∷ block o k ∷ []) v ≡ stage_after (settings_of (history_of o cs v)) (timing_of (history_of o cs v)) 0 k
   pub among :
       (later : List Call) → history_of o later v ≡ frames_more k (more (history_of o cs v) (Entry.trigger New ∷ []))
       → stage_at o later v ≡ stage_after (settings_of (history_of o cs v)) (timing_of (history_of o cs v)) 0 k
