@@ -85,7 +85,7 @@ returns c =
     let s = sized (goal.at.returns c).Else-len-wanted in
     let p : placed (byte c.args.list.now c.args.at) c.args.at ≡ true =
     elim c.if-at-eq0.branch [
-      then-at-eq0+else-number-ne1 w ↦ rw (eq-eqb c.args.at 0 w.if-at-eq0.true, eq-eqb (byte c.args.list.now c.args.at) 1 w.if-number-ne1.false)
+      | then-at-eq0+else-number-ne1 w ↦ rw (eq-eqb c.args.at 0 w.if-at-eq0.true, eq-eqb (byte c.args.list.now c.args.at) 1 w.if-number-ne1.false)
       | else-at-eq0+else-number-eq1 w ↦ rw (ne_eqb c.args.at 0 w.if-at-eq0.false, ne_eqb (byte c.args.list.now c.args.at) 1 w.if-number-eq1.false)
     ] in
     rw (← len_is (goal.at.returns c).After-wide-2, u.0, u.1, s.0, s.1, p, ← c.tag_of-tag.ensures) c.meaning.ensures

@@ -16,9 +16,9 @@ returns-then-c-ne-ACCEPTED c =
     let d = c.if-c-ne-ACCEPTED.true in record {
       refusal = ap (λ (x : Checked). x.refusal) q.ensures;
       voices = sym (if_refused q.result.refusal q.result.known.voices a.voices.now d)
-            ∙ ap (λ (x : Checked). if_accepted x.refusal x.known.voices a.voices.now) q.ensures;
+          ∙ ap (λ (x : Checked). if_accepted x.refusal x.known.voices a.voices.now) q.ensures;
       frames = sym (if_refused q.result.refusal q.result.frames a.frames.now d)
-            ∙ ap (λ (x : Checked). if_accepted x.refusal x.frames a.frames.now) q.ensures;
+          ∙ ap (λ (x : Checked). if_accepted x.refusal x.frames a.frames.now) q.ensures;
     }
 
 pub returns : goal.returns
@@ -29,7 +29,7 @@ returns c =
     let z : q.result.refusal ≡ 0 = omega (arith, c.if-c-ne-ACCEPTED.false) in record {
       refusal = sym z ∙ ap (λ (x : Checked). x.refusal) q.ensures;
       voices = sym (if_accepted_lem q.result.refusal q.result.known.voices a.voices.now z)
-            ∙ ap (λ (x : Checked). if_accepted x.refusal x.known.voices a.voices.now) q.ensures;
+          ∙ ap (λ (x : Checked). if_accepted x.refusal x.known.voices a.voices.now) q.ensures;
       frames = sym (if_accepted_lem q.result.refusal q.result.frames a.frames.now z)
-            ∙ ap (λ (x : Checked). if_accepted x.refusal x.frames a.frames.now) q.ensures;
+          ∙ ap (λ (x : Checked). if_accepted x.refusal x.frames a.frames.now) q.ensures;
     }
