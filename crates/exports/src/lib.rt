@@ -1,6 +1,8 @@
 // The number helpers, `Timing::samples`, and notes, calls and readings of the single envelope and of the
 // bank for C and Rust to link: the comparison with the Rust and the measurements call them. Each is the
 // library's function under a symbol of its own, or a few of its calls.
+#![tactic(auto)]
+
 mod asked;
 mod banks;
 mod envelopes;

@@ -1,7 +1,5 @@
 -- `put_words` is safe: four bytes a word. Invariant: i is at most the end, and the bytes are as many as before; measure: the bytes left.
-use mathlib.Core.Path.{◌≡◌}
-use Prim.Native.Nat.{◌-◌, ◌≤◌}
-use lib.ListN.{length}
+use Rattle.std.proofs.Common.{◌≡◌, ◌-◌, ◌≤◌, length}
 use Rattle.replay.proofs.replies.put_words.Given as goal
 
 abbrev pub invariant-loop-i : goal.invariant-loop-i
