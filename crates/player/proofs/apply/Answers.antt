@@ -1,6 +1,7 @@
 use mathlib.Core.Path.{refl, subst}
 use Prim.Native.Nat.{◌*◌, ◌/◌, ◌≤◌}
 use lib.ListN.{length}
+use borrow.Author.Rules.{rules}
 use Rattle.memory.specs.Memory.{arrays}
 use Rattle.rows.specs.Strides.{stride_of}
 use Rattle.bank.specs.Banks.{bank_of, size}
@@ -55,14 +56,14 @@ pub returns-in-Release : goal.returns-in-Release
 unfolding after deed frames_of
 returns-in-Release c =
     let a = c.args in
-    let r = applied_quiet (bank_of (arrays a.f.now a.k.now a.n.now a.c.now)) _ _ a.out.now _ c.in-Release.is refl c.release.ensures.bank in
+    let r = applied_quiet (bank_of (arrays a.f.now a.k.now a.n.now a.c.now)) _ _ a.out.now _ c.in-Release.is refl (search rules) in
     record { bank = r.0; levels = r.1.0; count = r.1.1 }
 
 pub returns-in-Reset : goal.returns-in-Reset
 unfolding after deed frames_of
 returns-in-Reset c =
     let a = c.args in
-    let r = applied_quiet (bank_of (arrays a.f.now a.k.now a.n.now a.c.now)) _ _ a.out.now _ c.in-Reset.is refl c.reset.ensures.bank in
+    let r = applied_quiet (bank_of (arrays a.f.now a.k.now a.n.now a.c.now)) _ _ a.out.now _ c.in-Reset.is refl (search rules) in
     record { bank = r.0; levels = r.1.0; count = r.1.1 }
 
 pub returns-in-Join : goal.returns-in-Join
