@@ -7,7 +7,7 @@ ghost use Rattle.std.specs.Prelude.{◌+◌, ◌*◌, ◌≤◌, ◌<◌, length
 
 use settings::ACCEPTED;
 use std::io;
-use std::io::{BufWriter, Read, Write};
+use std::io::{Read, Write};
 
 fn wide(x: u8) -> u64
     ensures { result < 256 }
@@ -93,12 +93,10 @@ fn read_full(from: &mut impl Read, bytes: &mut [u8]) -> io::Result<usize>
 fn main(rt: HostRuntime) -> io::Result<()> {
     let mut list = [0u8; 16385];
     let len = read_full(&mut rt.stdin(), &mut list)?;
-    let mut to = BufWriter::new(rt.alloc(), rt.stdout())?;
+    let mut to = rt.stdout();
     if len > 16384 {
-        to.write_all(b"too long\n")?;
-        return to.flush();
+        return to.write_all(b"too long\n");
     }
     let mut out = [0u8; 65536];
-    show(&mut to, &list[..len], &mut out)?;
-    to.flush()
+    show(&mut to, &list[..len], &mut out)
 }
