@@ -18,9 +18,16 @@ table =
       exp_m1_of_zero = (Numbers.table).4;
       first_segment = ((Lane.table).0, (Lane.table).1);
       second_segment = ((Lane.table).2, (Lane.table).3);
+      segments_left = ((Lane.played).0, Lane.second_segment);
+      after_segments = Lane.stage_ends;
       joined = (Lane.table).4;
+      joined_voice = (Lane.played).3;
+      joined_levels = (Lane.played).4;
+      after_joined = (Lane.played).5;
       before_replan = (Lane.table).5;
       to_three = (Lane.table).6;
       to_five = ((Lane.table).7, (Lane.table).8);
+      decay_left = (Lane.played).6;
+      longer_ends = (Lane.played).7;
       strides = (refl, refl, refl);
     }

@@ -8,8 +8,9 @@ use Rattle.timing.specs.Clock as Clock
 use Rattle.settings.specs.declared.settings.EnvelopeParams.{EnvelopeParams}
 use Rattle.settings.specs.declared.settings.StealRestart.TheVariants.{CurrentLevel}
 use Rattle.settings.specs.declared.settings.Trigger.TheVariants.{New}
+use Rattle.settings.specs.declared.stages.Stage.TheVariants.{Attack}
 use Rattle.lane.specs.declared.lanes.Voice.{Voice}
-use Rattle.lane.specs.Planning.{new}
+use Rattle.lane.specs.Planning.{new, enter}
 use Rattle.lane.specs.Voices.{trigger, set_params, frames}
 
 -- A millisecond is a sample.
@@ -53,3 +54,7 @@ replanned decay = set_params clock (settings zero decay) decaying
 -- 0.375.
 abbrev pub three_eighths : Float
 three_eighths = fin false 3 (negsuc 2)
+
+-- An attack of 4, entered at a level.
+abbrev pub attacked : Float → Voice
+attacked level = enter (new (settings (fin false 1 (pos 2)) zero)).lane clock Attack level
