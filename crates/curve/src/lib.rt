@@ -1,5 +1,5 @@
-// The curve family that bends the attack, decay and release stages, and the segments that a stage
-// is drawn with: curve.rs, and `Segment` of lane.rs, by value.
+// Curves, straight or bent either way, and the segments in which a stage follows one: what curve.rs
+// has, with `Segment` of lane.rs, by value.
 #![tactic(auto)]
 
 mod curves;

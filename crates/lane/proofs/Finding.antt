@@ -1,6 +1,6 @@
 -- The stages from one on, a stage at a time: the one to enter, which holds or has samples left from its place on, and how long they last.
-use mathlib.Core.Path.{◌≡◌, refl, sym}
-use mathlib.Core.Bool.{Bool, not, true, false, true≢false, false≢true}
+use mathlib.Core.Path.{◌≡◌, refl}
+use mathlib.Core.Bool.{true, false, true≢false, false≢true}
 use Prim.Native.Nat.{suc, ◌+◌, ◌≤◌, ◌<◌}
 use borrow.Author.Tests.{lt-ltb, le-ltb}
 use lib.Ieee.{Float}
@@ -11,14 +11,6 @@ use Rattle.settings.specs.declared.stages.Stage.TheVariants.{Idle, Delay, Attack
 use Rattle.settings.specs.Stages.{next, holds, timed_stages}
 use Rattle.lane.specs.Planning.{spec, join, find, find_from}
 use Rattle.lane.specs.Readings.{lasts, last_from}
-
-pub not_true : (b : Bool) → not b ≡ true → b ≡ false
-not_true true h = sym h
-not_true false h = refl
-
-pub not_false : (b : Bool) → not b ≡ false → b ≡ true
-not_false true h = refl
-not_false false h = sym h
 
 pub timed-next : (s : Stage) → holds s ≡ false → timed_stages s ≡ suc (timed_stages (next s))
 timed-next Idle h = absurd (true≢false h)

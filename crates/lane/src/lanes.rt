@@ -8,8 +8,9 @@ use curve::{MAX_SEGMENT, Segment, UNTIMED};
 use settings::{EnvelopeParams, Stage};
 use timing::Timing;
 
-// A stage's length, target and bend, as the settings set them. A change in them is what makes a
-// change of settings re-plan the stage.
+// A stage by its settings: its count, the level it goes to, and its bend. A plan keeps the one that it
+// was made for, so that `replan` can tell whether other settings or another timing make a difference
+// to the present stage, and leave it as it is if not.
 #[derive(Clone, Copy)]
 pub struct Spec {
     pub total: u64,
@@ -17,23 +18,23 @@ pub struct Spec {
     pub k: f64,
 }
 
-// One envelope's plan.
+// A voice's settings, its present stage and the curve that it follows.
 #[derive(Clone, Copy)]
 pub struct Lane {
     pub params: EnvelopeParams,
     pub stage: Stage,
-    // The current stage as the settings set it.
+    // What the stage was entered or last replanned by.
     pub spec: Spec,
-    // The curve that the current stage follows: from `from` to `to` over `curve_total` samples with
-    // the bend k. A re-planned stage's curve is the rest of the stage, so spec.total - curve_total
-    // samples of the stage had passed when it started.
+    // The curve. A replanned stage has one for its rest alone, since it has to go on from the level of
+    // that moment and still end in time: spec.total - curve_total is then what was drawn of the stage
+    // before.
     pub from: f32,
     pub to: f32,
     pub k: f64,
     pub curve_total: u64,
-    // Samples into the curve at the start of the current segment.
+    // The sample of the curve that the present segment began with.
     pub pos: u64,
-    // The current segment's length.
+    // How many samples that segment has in all.
     pub seg_len: u32,
 }
 
@@ -44,7 +45,7 @@ pub struct Voice {
     pub seg: Segment,
 }
 
-// Where a stage begins: its curve's start level, and how many samples along the curve.
+// How a stage begins: the level at its curve's sample 0, and the sample that it begins with.
 #[derive(Clone, Copy)]
 pub struct Joined {
     pub from: f32,
@@ -59,7 +60,7 @@ pub struct Entered {
     pub joined: Joined,
 }
 
-// `stage` as the settings set it; `level` is what a delay holds.
+// What a stage is by the settings. `level` is the level before it, at which a delay stays.
 pub(crate) fn spec_of(p: EnvelopeParams, stage: Stage, timing: Timing, level: f32) -> Spec
     ensures { result ≡ Planning.spec p stage timing level }
 {
@@ -116,7 +117,10 @@ pub(crate) fn same_spec(a: Spec, b: Spec) -> bool
     false
 }
 
-// Where an attack starting at `level` begins.
+// An attack from above the start level leaves out the part of its curve that is below: it begins with
+// the sample that has this level, or nearly, and takes what is then left of its time. No sample has a
+// level below the start level, and a start level of 1 leaves nothing to rise: then the curve begins at
+// the level itself and is drawn whole. From 1 on the attack is over.
 fn join_attack(p: EnvelopeParams, level: f32, spec: Spec) -> Joined
     ensures { result ≡ Planning.join_attack p level spec }
 {
@@ -146,7 +150,7 @@ fn join_attack(p: EnvelopeParams, level: f32, spec: Spec) -> Joined
     }
 }
 
-// Where a stage starting at `level` begins: only an attack joins its curve.
+// The same of any stage: only an attack can begin inside its curve.
 pub(crate) fn join(p: EnvelopeParams, stage: Stage, level: f32, spec: Spec) -> Joined
     ensures { result ≡ Planning.join p stage level spec }
 {
@@ -211,7 +215,7 @@ fn find(p: EnvelopeParams, timing: Timing, first: Stage, first_level: f32) -> En
 }
 
 impl Lane {
-    // An idle envelope with `params`, and the segment that it draws.
+    // A voice before its first note.
     pub fn new(params: EnvelopeParams) -> Voice
         ensures { result ≡ Planning.new params }
     {
@@ -236,7 +240,7 @@ impl Lane {
         }
     }
 
-    // Starts `stage` at `level`, skipping stages that take no time.
+    // The plan from `stage` on, which finds the voice at `level`.
     pub(crate) fn enter(self, timing: Timing, stage: Stage, level: f32) -> Voice
         ensures { result ≡ Planning.enter self timing stage level }
     {
@@ -250,7 +254,7 @@ impl Lane {
         self.begin(stage, spec, found.joined.from, spec.total, found.joined.pos)
     }
 
-    // `stage` at its target level, until something happens.
+    // An untimed stage. Its level needs no curve, and the last one stays in the plan, unread.
     pub(crate) fn hold(self, stage: Stage, spec: Spec) -> Voice
         ensures { result ≡ Planning.hold self stage spec }
     {
@@ -271,7 +275,8 @@ impl Lane {
         }
     }
 
-    // `stage` along the curve from `from` to its target over `total` samples, starting at `pos`.
+    // A timed stage, on a curve that takes it from `from` to its target in `total` samples, and of which
+    // it leaves out the first `pos`.
     pub(crate) fn begin(self, stage: Stage, spec: Spec, from: f32, total: u64, pos: u64) -> Voice
         ensures { result ≡ Planning.begin self stage spec from total pos }
     {
@@ -290,7 +295,8 @@ impl Lane {
         lane.start_segment()
     }
 
-    // Starts the current curve's next segment, at `pos`.
+    // The curve's part from `pos` on. It begins at the curve's level there, not at the level that the
+    // segment before it arrived at, so that no rounding is carried from one to the next.
     fn start_segment(self) -> Voice
         ensures { result ≡ Planning.start_segment self }
     {
@@ -304,7 +310,8 @@ impl Lane {
         }
     }
 
-    // Moves on when the current segment has ended.
+    // What follows a segment: the curve's next part, or the next stage. A stage begins at the target of
+    // the one before, whatever rounding made of the last level.
     pub fn advance(self, timing: Timing) -> Voice
         ensures { result ≡ Planning.advance timing self }
     {

@@ -35,11 +35,12 @@ fn stages_last(p: EnvelopeParams, timing: Timing, first: Stage, first_level: f32
     sum
 }
 
-// A plan's stage after its settings or the timing changed. A stage whose length, target and bend are
-// unchanged carries on untouched; otherwise it continues from the current level to the new target over
-// what remains of its new length, and ends at once if that has already passed. A sustain or idle level
-// moves to its new value at once. The plan and its segment come by themselves, since a voice put
-// together for the call would be one copy more.
+// The plan under new settings or a new timing. If the present stage has the same count, target and bend
+// as before, its segment is kept: cutting it anew would change bits for nothing. Else a timed stage goes
+// on from the level that it has, so that nothing jumps. What was drawn of it counts towards its new
+// length, and only the rest is on the new curve; if there is no rest, the next stage begins at the new
+// target. An untimed stage is at its new level with the next frame. The plan and its segment come by
+// themselves, since a voice put together for the call would be one copy more.
 fn replanned(lane: Lane, seg: Segment, timing: Timing) -> Voice
     ensures { result ≡ Voices.replan timing (record { lane = lane; seg = seg }) }
 {
@@ -119,7 +120,7 @@ impl Voice {
         }
     }
 
-    // A note starts.
+    // A note: the stages from Delay on, unless the trigger leaves a sounding voice alone.
     pub fn trigger(self, timing: Timing, trigger: Trigger) -> Voice
         ensures { result ≡ Voices.trigger timing trigger self }
     {
@@ -130,7 +131,7 @@ impl Voice {
         self.lane.enter(timing, Stage::Delay, level)
     }
 
-    // The note ends: release from the current level.
+    // The note's end: Release, from wherever the voice is. In Release or Idle it has ended already.
     pub fn release(self, timing: Timing) -> Voice
         ensures { result ≡ Voices.release timing self }
     {
@@ -142,21 +143,21 @@ impl Voice {
         lane.enter(timing, Stage::Release, self.seg.level())
     }
 
-    // Goes idle at once, at the end level.
+    // Idle with no release before it; Idle does not ask for the level that is handed to `enter`.
     pub fn reset(self, timing: Timing) -> Voice
         ensures { result ≡ Voices.reset timing self }
     {
         self.lane.enter(timing, Stage::Idle, 0.0)
     }
 
-    // Re-plans the current stage after its settings or the timing changed.
+    // The same voice under a timing that may be new.
     pub fn replan(self, timing: Timing) -> Voice
         ensures { result ≡ Voices.replan timing self }
     {
         replanned(self.lane, self.seg, timing)
     }
 
-    // Changes the settings, and re-plans.
+    // The same voice with other settings.
     pub fn set_params(self, timing: Timing, params: EnvelopeParams) -> Voice
         ensures { result ≡ Voices.set_params timing params self }
     {

@@ -1,6 +1,6 @@
--- Flags: one that is kept over a loop, and one that was tested by its negation.
+-- A flag that is kept over a loop.
 use mathlib.Core.Path.{◌≡◌, refl, sym}
-use mathlib.Core.Bool.{Bool, true, false, ◌&&◌, not, true≢false}
+use mathlib.Core.Bool.{Bool, true, false, ◌&&◌, true≢false}
 use Prim.Native.Nat.{ℕ, ◌+◌, ◌<◌}
 use borrow.Author.Count.{below_more}
 
@@ -12,7 +12,3 @@ pub all_more : (P : ℕ → Type 0) (x y : Bool) (i : ℕ) → (x ≡ true → (
     → (j : ℕ) → j < i + 1 → P j
 all_more P true y i X Y e = below_more P i (X refl) (Y e)
 all_more P false y i X Y e = absurd (not_true e)
-
-pub un_not : (x : Bool) → not x ≡ false → x ≡ true
-un_not true h = refl
-un_not false h = absurd (true≢false h)

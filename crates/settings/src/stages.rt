@@ -1,10 +1,10 @@
-// Where an envelope is.
+// The stages of an envelope.
 ghost use Rattle.std.specs.Prelude.{◌≡◌};
 ghost use Rattle.settings.specs.Stages as Stages;
 
-// Idle holds the end level until a note, Delay the starting level, Hold full, Sustain its level
-// until the note ends; Attack rises to full, Decay falls to the sustain level, Release to the end
-// level.
+// Idle stays at the end level and Sustain at its own, both without a count; Delay stays for a time at
+// the level that the note began with, and Hold at 1. Attack goes to 1, Decay to the sustain level and
+// Release to the end level, each in its time.
 #[derive(Clone, Copy)]
 pub enum Stage {
     Idle,
@@ -17,7 +17,7 @@ pub enum Stage {
 }
 
 impl Stage {
-    // The stage after this one, when it ends by itself.
+    // What follows when its time is over. Idle and Sustain have no time, and are followed by themselves.
     pub fn next(self) -> Self
         ensures { result ≡ Stages.next self }
     {
@@ -47,7 +47,7 @@ impl Stage {
         }
     }
 
-    // Whether it is idle, so that its voice can end.
+    // Whether the voice is free.
     pub fn is_idle(self) -> bool
         ensures { result ≡ Stages.is_idle self }
     {
