@@ -6,9 +6,7 @@ mod settings;
 mod stages;
 
 pub use refusals::{
-    ACCEPTED, CUT_SHORT, MAX_SAMPLE_RATE, MAX_TIME, MISPLACED_OPEN, NO_SUCH_VOICE,
-    NOT_WHOLE_FRAMES, OUTPUT_TOO_SHORT, RATE_OVER, TIME_OVER, TOO_MANY_VOICES, UNKNOWN_TAG,
-    UNNAMED_CODE, WRONG_LENGTH, refused_fresh, refused_params, refused_timing,
+    MAX_SAMPLE_RATE, MAX_TIME, Refusal, check_fresh, check_params, check_timing, number_of,
 };
 pub use settings::{EnvelopeParams, StealRestart, Trigger};
 pub use stages::Stage;

@@ -1,79 +1,86 @@
-// What is refused, and by which number: document 01, "No's, by call". 0 is accepted.
+// What is refused, and by which number: document 01, "No's, by call".
 ghost use Rattle.std.specs.Prelude.{◌≡◌};
 ghost use Rattle.settings.specs.Refusals as Refusals;
 
 use crate::settings::EnvelopeParams;
 use timing::Timing;
 
-pub const ACCEPTED: u32 = 0;
-// A bank of more voices than it has room for.
-pub const TOO_MANY_VOICES: u32 = 1;
+// Why a call is refused; each has its number.
+#[derive(Clone, Copy)]
+pub enum Refusal {
+    // A bank of more voices than it has room for.
+    TooManyVoices = 1,
+    NoSuchVoice = 2,
+    // A time over MAX_TIME.
+    TimeOver = 3,
+    // A sample rate over MAX_SAMPLE_RATE.
+    RateOver = 4,
+    // An output that is not whole frames.
+    NotWholeFrames = 5,
+    // A record of an event list whose head or body doesn't fit in the bytes.
+    CutShort = 6,
+    UnknownTag = 7,
+    WrongLength = 8,
+    // A first record that is no open, or an open that isn't first.
+    MisplacedOpen = 9,
+    // A code byte without a name.
+    UnnamedCode = 10,
+    // An output that doesn't hold a list's frames.
+    OutputTooShort = 11,
+}
 
-pub const NO_SUCH_VOICE: u32 = 2;
-// A time over MAX_TIME.
-pub const TIME_OVER: u32 = 3;
-// A sample rate over MAX_SAMPLE_RATE.
-pub const RATE_OVER: u32 = 4;
-// An output that is not whole frames.
-pub const NOT_WHOLE_FRAMES: u32 = 5;
-// A record of an event list whose head or body doesn't fit in the bytes.
-pub const CUT_SHORT: u32 = 6;
+impl Refusal {
+    pub fn number(self) -> u32
+        ensures { result ≡ Refusals.number self }
+    {
+        self as u32
+    }
+}
 
-pub const UNKNOWN_TAG: u32 = 7;
-
-pub const WRONG_LENGTH: u32 = 8;
-// A first record that is no open, or an open that isn't first.
-pub const MISPLACED_OPEN: u32 = 9;
-// A code byte without a name.
-pub const UNNAMED_CODE: u32 = 10;
-// An output that doesn't hold a list's frames.
-pub const OUTPUT_TOO_SHORT: u32 = 11;
+// A call's answer as hosts and lists have it: 0, or the refusal's number.
+pub fn number_of(answer: Result<(), Refusal>) -> u32
+    ensures { result ≡ Refusals.number_of answer }
+{
+    match answer {
+        Ok(()) => 0,
+        Err(refusal) => refusal.number(),
+    }
+}
 
 // In milliseconds or beats.
 pub const MAX_TIME: f32 = 1048576.0;
 // In samples per second.
 pub const MAX_SAMPLE_RATE: f64 = 1048576.0;
 
-// Whether these settings are refused. A NaN is over nothing.
-pub fn refused_params(p: EnvelopeParams) -> u32
-    ensures { result ≡ Refusals.params p }
+// Whether these settings are accepted. A NaN is over nothing.
+pub fn check_params(p: EnvelopeParams) -> Result<(), Refusal>
+    ensures { Refusals.number_of result ≡ Refusals.params p }
 {
-    if p.delay > MAX_TIME {
-        return TIME_OVER;
+    if p.delay > MAX_TIME
+        || p.attack > MAX_TIME
+        || p.hold > MAX_TIME
+        || p.decay > MAX_TIME
+        || p.release > MAX_TIME
+    {
+        return Err(Refusal::TimeOver);
     }
-    if p.attack > MAX_TIME {
-        return TIME_OVER;
-    }
-    if p.hold > MAX_TIME {
-        return TIME_OVER;
-    }
-    if p.decay > MAX_TIME {
-        return TIME_OVER;
-    }
-    if p.release > MAX_TIME {
-        return TIME_OVER;
-    }
-    ACCEPTED
+    Ok(())
 }
 
-// Whether this timing is refused.
-pub fn refused_timing(timing: Timing) -> u32
-    ensures { result ≡ Refusals.timing timing }
+// Whether this timing is accepted.
+pub fn check_timing(timing: Timing) -> Result<(), Refusal>
+    ensures { Refusals.number_of result ≡ Refusals.timing timing }
 {
     if timing.sample_rate > MAX_SAMPLE_RATE {
-        RATE_OVER
-    } else {
-        ACCEPTED
+        return Err(Refusal::RateOver);
     }
+    Ok(())
 }
 
-// Whether a fresh envelope of these is refused: the rate is tested first.
-pub fn refused_fresh(p: EnvelopeParams, timing: Timing) -> u32
-    ensures { result ≡ Refusals.fresh p timing }
+// Whether a fresh envelope of these is accepted: the rate is tested first.
+pub fn check_fresh(p: EnvelopeParams, timing: Timing) -> Result<(), Refusal>
+    ensures { Refusals.number_of result ≡ Refusals.fresh p timing }
 {
-    let refusal = refused_timing(timing);
-    if refusal != ACCEPTED {
-        return refusal;
-    }
-    refused_params(p)
+    check_timing(timing)?;
+    check_params(p)
 }

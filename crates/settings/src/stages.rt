@@ -36,59 +36,30 @@ impl Stage {
     pub fn holds(self) -> bool
         ensures { result ≡ Stages.holds self }
     {
-        match self {
-            Stage::Idle => true,
-            Stage::Delay => false,
-            Stage::Attack => false,
-            Stage::Hold => false,
-            Stage::Decay => false,
-            Stage::Sustain => true,
-            Stage::Release => false,
-        }
+        matches!(self, Stage::Idle | Stage::Sustain)
     }
 
     // Whether the voice is free.
     pub fn is_idle(self) -> bool
         ensures { result ≡ Stages.is_idle self }
     {
-        match self {
-            Stage::Idle => true,
-            Stage::Delay => false,
-            Stage::Attack => false,
-            Stage::Hold => false,
-            Stage::Decay => false,
-            Stage::Sustain => false,
-            Stage::Release => false,
-        }
+        matches!(self, Stage::Idle)
     }
 
     // Whether a release finds nothing left to do.
     pub fn is_released(self) -> bool
         ensures { result ≡ Stages.is_released self }
     {
-        match self {
-            Stage::Idle => true,
-            Stage::Delay => false,
-            Stage::Attack => false,
-            Stage::Hold => false,
-            Stage::Decay => false,
-            Stage::Sustain => false,
-            Stage::Release => true,
-        }
+        matches!(self, Stage::Idle | Stage::Release)
     }
 
     // Whether Sustain is still to come.
     pub fn leads_up(self) -> bool
         ensures { result ≡ Stages.leads_up self }
     {
-        match self {
-            Stage::Idle => false,
-            Stage::Delay => true,
-            Stage::Attack => true,
-            Stage::Hold => true,
-            Stage::Decay => true,
-            Stage::Sustain => false,
-            Stage::Release => false,
-        }
+        matches!(
+            self,
+            Stage::Delay | Stage::Attack | Stage::Hold | Stage::Decay
+        )
     }
 }
