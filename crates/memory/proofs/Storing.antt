@@ -17,14 +17,12 @@ use Rattle.settings.specs.declared.settings.StealRestart.{StealRestart}
 use Rattle.settings.specs.declared.settings.StealRestart.TheVariants.{CurrentLevel, StartLevel}
 use Rattle.settings.specs.declared.stages.Stage.{Stage}
 use Rattle.settings.specs.declared.stages.Stage.TheVariants.{Idle, Delay, Attack, Hold, Decay, Sustain, Release}
-use Rattle.settings.specs.declared.settings.EnvelopeParams.{EnvelopeParams}
-use Rattle.curve.specs.declared.segments.Segment.{Segment}
-use Rattle.lane.specs.declared.lanes.Lane.{Lane}
 use Rattle.lane.specs.declared.lanes.Voice.{Voice}
 use Rattle.memory.specs.Spaced.{spaced, puts}
-use Rattle.memory.specs.Memory.{Arrays, arrays, unit_of, unit_code, restart_of, restart_code, flag_of, flag_code, stage_of, stage_code}
+use Rattle.memory.specs.declared.arrays.Arrays.{Arrays}
+use Rattle.memory.specs.Memory.{unit_of, unit_code, restart_of, restart_code, flag_of, flag_code, stage_of, stage_code}
 use Rattle.memory.specs.Memory.{Sized, TimingPut, VoicesPut, bends_length, codes_length}
-use Rattle.memory.specs.Memory.{params_of, lane_of, segment_of, voice_of, floats_of, voice_at, if_room, Same, Stored}
+use Rattle.memory.specs.Memory.{params_of, lane_of, segment_of, voice_of, floats_of, codes_of, voice_at, if_room, Same, Stored}
 use Rattle.memory.proofs.Spaced.{length-puts, puts-kept, spaced-stored, spaced-kept}
 
 -- ---- codes are read back
@@ -65,9 +63,7 @@ abbrev pub counts_in : Voice → List ℕ
 counts_in x = x.lane.spec.total ∷ x.lane.curve_total ∷ x.lane.pos ∷ []
 
 abbrev pub codes_in : Voice → List ℕ
-codes_in x =
-    x.lane.seg_len ∷ unit_code x.lane.params.unit ∷ flag_code x.lane.params.legato_inverted ∷ restart_code x.lane.params.steal_restart
-    ∷ stage_code x.lane.stage ∷ []
+codes_in x = codes_of x.lane
 
 -- They make the voice.
 voice-back : (x : Voice) → voice_of (floats_in x) (columns_in x) (bends_in x) (counts_in x) (codes_in x) x.seg.left ≡ x
@@ -104,16 +100,24 @@ same_trans w a b c p q =
       codes = q.codes ∙ p.codes;
     }
 
+-- Memory is its four arrays.
+memory-same : (m m' : Arrays) → m.bends ≡ m'.bends → m.counts ≡ m'.counts → m.floats ≡ m'.floats → m.codes ≡ m'.codes → m ≡ m'
+memory-same m m' a b c d =
+    let made : List Float → List ℕ → List Float → List ℕ → Arrays = λ k n f c. record { bends = k; counts = n; floats = f; codes = c } in
+    let e : made m.bends m.counts m.floats m.codes ≡ made m'.bends m'.counts m'.floats m'.codes = cc in
+    e
+
 -- ---- stored
 
 -- The arrays after the numbers of x were stored for voice v.
 abbrev storing : ℕ → Voice → Arrays → Arrays
 storing v x m =
-    arrays
-    (puts 68 (puts 1 m.floats (340 + 14 * v) (floats_in x)) v (columns_in x))
-    (puts 1 m.bends (3 + 2 * v) (bends_in x))
-    (puts 1 m.counts (3 * v) (counts_in x))
-    (set (puts 1 m.codes (69 + 5 * v) (codes_in x)) v x.seg.left)
+    record {
+      bends = puts 1 m.bends (3 + 2 * v) (bends_in x);
+      counts = puts 1 m.counts (3 * v) (counts_in x);
+      floats = puts 68 (puts 1 m.floats (340 + 14 * v) (floats_in x)) v (columns_in x);
+      codes = set (puts 1 m.codes (69 + 5 * v) (codes_in x)) v x.seg.left;
+    }
 
 module _ (m : Arrays) (v : ℕ) (x : Voice) (S : Sized m) (h : v < 64) where
   abbrev f : List Float
@@ -203,44 +207,13 @@ none-stored m v x h =
     record { here = λ g. absurd (omega arith); there = λ w u ne. same_self w m; none = λ g. refl; voices = refl; timing = refl }
 
 -- What the store functions leave, one after the other.
-pub stored_by : (f k : List Float) (n c : List ℕ) (v : ℕ) (x : Voice) (f' f'' k' : List Float) (n' c' c'' : List ℕ) (p q r s : ℕ)
-    → f' ≡ puts 1 f (340 + 14 * v) (floats_in x) → f'' ≡ puts 68 f' v (columns_in x) → k' ≡ puts 1 k (3 + 2 * v) (bends_in x) → n' ≡ puts 1 n (3 * v) (counts_in x)
-    → p ≡ unit_code x.lane.params.unit → q ≡ flag_code x.lane.params.legato_inverted → r ≡ restart_code x.lane.params.steal_restart
-    → s ≡ stage_code x.lane.stage → c' ≡ puts 1 c (69 + 5 * v) (x.lane.seg_len ∷ p ∷ q ∷ r ∷ s ∷ []) → c'' ≡ set c' v x.seg.left
-    → v < 64 → Sized (arrays f k n c) → Stored v x (arrays f k n c) (arrays f'' k' n' c'')
-stored_by f k n c v x f' f'' k' n' c' c'' p q r s e₁ e₂ e₃ e₄ p₁ p₂ p₃ p₄ e₅ e₆ h S =
-    let row : (x.lane.seg_len ∷ p ∷ q ∷ r ∷ s ∷ []) ≡ codes_in x = cc in
-    let m = arrays f k n c in
-    let f-is : puts 68 (puts 1 f (340 + 14 * v) (floats_in x)) v (columns_in x) ≡ f'' = sym (e₂ ∙ ap (λ (l : List Float). puts 68 l v (columns_in x)) e₁) in
-    let c-is : set (puts 1 c (69 + 5 * v) (codes_in x)) v x.seg.left ≡ c'' =
-    sym (e₆ ∙ ap (λ (l : List ℕ). set l v x.seg.left) (e₅ ∙ ap (λ (cs : List ℕ). puts 1 c (69 + 5 * v) cs) row))
-    in
-    let f₂ = puts 68 (puts 1 f (340 + 14 * v) (floats_in x)) v (columns_in x) in
-    let k₁ = puts 1 k (3 + 2 * v) (bends_in x) in
-    let n₁ = puts 1 n (3 * v) (counts_in x) in
-    subst (λ (l : List Float). Stored v x m (arrays l k' n' c'')) f-is
-    (subst (λ (l : List Float). Stored v x m (arrays f₂ l n' c'')) (sym e₃)
-    (subst (λ (l : List ℕ). Stored v x m (arrays f₂ k₁ l c'')) (sym e₄)
-    (subst (λ (l : List ℕ). Stored v x m (arrays f₂ k₁ n₁ l)) c-is (stored m v x S h))))
-
--- What the load functions find.
-pub settings-loaded : (fs : List Float) (cs : List ℕ) (u : TimeUnit) (i : Bool) (r : StealRestart) (p : EnvelopeParams)
-    → p ≡ params_of fs u i r → r ≡ restart_of (get_or cs 3 0) → i ≡ flag_of (get_or cs 2 0) → u ≡ unit_of (get_or cs 1 0)
-    → p ≡ params_of fs (unit_of (get_or cs 1 0)) (flag_of (get_or cs 2 0)) (restart_of (get_or cs 3 0))
-settings-loaded fs cs u i r p e₁ e₂ e₃ e₄ =
-    e₁
-    ∙ ap (λ (u : TimeUnit). params_of fs u i r) e₄
-    ∙ ap (λ (i : Bool). params_of fs (unit_of (get_or cs 1 0)) i r) e₃
-    ∙ ap (λ (r : StealRestart). params_of fs (unit_of (get_or cs 1 0)) (flag_of (get_or cs 2 0)) r) e₂
-
-pub voice-loaded : (fs ss ks : List Float) (ns cs : List ℕ) (left : ℕ) (s : Stage) (p : EnvelopeParams) (l : Lane) (g : Segment)
-    → g ≡ segment_of ss left → l ≡ lane_of fs ks ns cs p s → s ≡ stage_of (get_or cs 4 0)
-    → p ≡ params_of fs (unit_of (get_or cs 1 0)) (flag_of (get_or cs 2 0)) (restart_of (get_or cs 3 0))
-    → record { lane = l; seg = g } ≡ voice_of fs ss ks ns cs left
-voice-loaded fs ss ks ns cs left s p l g e₁ e₂ e₃ e₄ =
-    let m : Lane → Segment → Voice = λ l g. record { lane = l; seg = g } in
-    ap (λ (g : Segment). m l g) e₁
-    ∙ ap (λ (l : Lane). m l (segment_of ss left)) (e₂ ∙ ap (λ (p : EnvelopeParams). lane_of fs ks ns cs p s) e₄ ∙ ap (λ (s : Stage). lane_of fs ks ns cs (params_of fs (unit_of (get_or cs 1 0)) (flag_of (get_or cs 2 0)) (restart_of (get_or cs 3 0))) s) e₃)
+pub stored_by : (m m' : Arrays) (v : ℕ) (x : Voice) (f : List Float) (c : List ℕ)
+    → f ≡ puts 1 m.floats (340 + 14 * v) (floats_in x) → m'.floats ≡ puts 68 f v (columns_in x) → m'.bends ≡ puts 1 m.bends (3 + 2 * v) (bends_in x)
+    → m'.counts ≡ puts 1 m.counts (3 * v) (counts_in x) → c ≡ puts 1 m.codes (69 + 5 * v) (codes_in x) → m'.codes ≡ set c v x.seg.left
+    → v < 64 → Sized m → Stored v x m m'
+stored_by m m' v x f c e₁ e₂ e₃ e₄ e₅ e₆ h S =
+    let e : storing v x m ≡ m' = memory-same _ _ (sym e₃) (sym e₄) (sym (e₂ ∙ ap (λ (l : List Float). puts 68 l v (columns_in x)) e₁)) (sym (e₆ ∙ ap (λ (l : List ℕ). set l v x.seg.left) e₅)) in
+    subst (λ (m' : Arrays). Stored v x m m') e (stored m v x S h)
 
 -- A voice that there is room for.
 pub room : {A : Type 0} (v : ℕ) (x y : A) → v < 64 → if_room v x y ≡ x

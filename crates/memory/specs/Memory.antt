@@ -15,6 +15,7 @@ use Rattle.lane.specs.declared.lanes.Spec.{Spec}
 use Rattle.lane.specs.declared.lanes.Lane.{Lane}
 use Rattle.lane.specs.declared.lanes.Voice.{Voice}
 use Rattle.lane.specs.Planning as Planning
+use Rattle.memory.specs.declared.arrays.Arrays.{Arrays}
 use Rattle.memory.specs.Spaced.{spaced}
 
 -- The most voices that a bank has.
@@ -37,15 +38,6 @@ counts_length = 192
 
 abbrev pub codes_length : ℕ
 codes_length = 389
-
-pub record Arrays : Type 0 where
-  pub floats : List Float
-  pub bends : List Float
-  pub counts : List ℕ
-  pub codes : List ℕ
-
-abbrev pub arrays : List Float → List Float → List ℕ → List ℕ → Arrays
-arrays f k n c = record { floats = f; bends = k; counts = n; codes = c }
 
 -- ---- codes: a number that is none of them is the first case, or the second where there are two
 
@@ -194,6 +186,11 @@ abbrev pub floats_of : EnvelopeParams → Spec → Float → Float → List Floa
 floats_of p spec from to =
     p.delay ∷ p.attack ∷ p.hold ∷ p.decay ∷ p.sustain ∷ p.release ∷ p.attack_curve ∷ p.decay_curve ∷ p.release_curve ∷ p.start ∷ p.end
     ∷ spec.to ∷ from ∷ to ∷ []
+
+-- The codes of a record.
+abbrev pub codes_of : Lane → List ℕ
+codes_of l =
+    l.seg_len ∷ unit_code l.params.unit ∷ flag_code l.params.legato_inverted ∷ restart_code l.params.steal_restart ∷ stage_code l.stage ∷ []
 
 -- Voice v of the arrays.
 unfoldable pub voice_at : Arrays → ℕ → Voice

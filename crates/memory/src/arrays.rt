@@ -1,5 +1,5 @@
 // The four arrays, and what they hold for all voices.
-ghost use Rattle.std.specs.Prelude.{◌≡◌, min, length};
+ghost use Rattle.std.specs.Prelude.{◌≡◌, min};
 ghost use Rattle.memory.specs.Memory as Memory;
 
 use timing::Timing;
@@ -32,63 +32,60 @@ pub const CODES: usize = 389;
 
 pub type Codes = [u32; CODES];
 
-// These do nothing: an array that is lent on as a slice has told its length.
-fn bends_length(k: &[f64])
-    requires { length k.now ≡ Memory.bends_length }
-    ensures { length k.now ≡ Memory.bends_length }
-{}
-
-fn codes_length(c: &[u32])
-    requires { length c.now ≡ Memory.codes_length }
-    ensures { length c.now ≡ Memory.codes_length }
-{}
+// A bank's numbers. They lie in the host's memory, so in the order that C has them in.
+#[repr(C)]
+pub struct Arrays {
+    pub bends: Bends,
+    pub counts: Counts,
+    pub floats: Floats,
+    pub codes: Codes,
+}
 
 // How many voices a bank has whose number of voices says `voices`: no more than there is room for.
 pub fn count(voices: usize) -> usize
     ensures { result ≡ min voices Memory.max_voices }
 {
-    if voices < MAX_VOICES {
-        return voices;
+    voices.min(MAX_VOICES)
+}
+
+impl Arrays {
+    // Zeros are a bank of no voices.
+    pub const ZEROS: Self = Self {
+        bends: [0.0; BENDS],
+        counts: [0; COUNTS],
+        floats: [0.0; FLOATS],
+        codes: [0; CODES],
+    };
+
+    // How many voices there are.
+    pub fn voices(&self) -> usize
+        ensures { result ≡ Memory.count_of self.now.codes }
+    {
+        count(self.codes[68] as usize)
     }
-    MAX_VOICES
+
+    // The timing.
+    pub fn timing(&self) -> Timing
+        ensures { result ≡ Memory.timing_at self.now.bends }
+    {
+        Timing {
+            sample_rate: self.bends[0],
+            tempo: self.bends[1],
+            scale: self.bends[2],
+        }
+    }
 }
 
-fn wide(x: u32) -> usize
-    ensures { result ≡ x }
-{
-    x as usize
-}
-
-// How many voices there are.
-pub fn voices_of(c: &Codes) -> usize
-    ensures { result ≡ Memory.count_of c.now }
-{
-    count(wide(c[68]))
-}
-
-// As many as `voices`, or as there is room for.
+// As many voices as `voices`, or as there is room for.
 pub fn put_voices(c: &mut Codes, voices: usize)
     ensures { Memory.VoicesPut (min voices Memory.max_voices) c.old c.new }
 {
-    codes_length(c);
     c[68] = count(voices) as u32;
-}
-
-// The timing.
-pub fn timing_of(k: &Bends) -> Timing
-    ensures { result ≡ Memory.timing_at k.now }
-{
-    Timing {
-        sample_rate: k[0],
-        tempo: k[1],
-        scale: k[2],
-    }
 }
 
 pub fn put_timing(k: &mut Bends, timing: Timing)
     ensures { Memory.TimingPut timing k.old k.new }
 {
-    bends_length(k);
     k[0] = timing.sample_rate;
     k[1] = timing.tempo;
     k[2] = timing.scale;

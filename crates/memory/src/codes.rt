@@ -8,55 +8,43 @@ use timing::TimeUnit;
 pub fn unit_of(code: u32) -> TimeUnit
     ensures { result ≡ Memory.unit_of code }
 {
-    if code == 0 {
-        return TimeUnit::Milliseconds;
+    match code {
+        0 => TimeUnit::Milliseconds,
+        _ => TimeUnit::Tempo,
     }
-    TimeUnit::Tempo
 }
 
 pub fn unit_code(unit: TimeUnit) -> u32
     ensures { result ≡ Memory.unit_code unit }
 {
-    match unit {
-        TimeUnit::Milliseconds => 0,
-        TimeUnit::Tempo => 1,
-    }
+    unit as u32
 }
 
 pub fn restart_of(code: u32) -> StealRestart
     ensures { result ≡ Memory.restart_of code }
 {
-    if code == 0 {
-        return StealRestart::CurrentLevel;
+    match code {
+        0 => StealRestart::CurrentLevel,
+        _ => StealRestart::StartLevel,
     }
-    StealRestart::StartLevel
 }
 
 pub fn restart_code(restart: StealRestart) -> u32
     ensures { result ≡ Memory.restart_code restart }
 {
-    match restart {
-        StealRestart::CurrentLevel => 0,
-        StealRestart::StartLevel => 1,
-    }
+    restart as u32
 }
 
 pub fn flag_of(code: u32) -> bool
     ensures { result ≡ Memory.flag_of code }
 {
-    if code == 0 {
-        return false;
-    }
-    true
+    code != 0
 }
 
 pub fn flag_code(flag: bool) -> u32
     ensures { result ≡ Memory.flag_code flag }
 {
-    if flag {
-        return 1;
-    }
-    0
+    flag as u32
 }
 
 pub(crate) fn stage_named(code: u32) -> Stage
@@ -76,13 +64,5 @@ pub(crate) fn stage_named(code: u32) -> Stage
 pub fn stage_code(stage: Stage) -> u32
     ensures { result ≡ Memory.stage_code stage }
 {
-    match stage {
-        Stage::Idle => 0,
-        Stage::Delay => 1,
-        Stage::Attack => 2,
-        Stage::Hold => 3,
-        Stage::Decay => 4,
-        Stage::Sustain => 5,
-        Stage::Release => 6,
-    }
+    stage as u32
 }

@@ -7,8 +7,7 @@ mod codes;
 mod voices;
 
 pub use arrays::{
-    BENDS, Bends, CODES, COUNTS, Codes, Counts, FLOATS, Floats, LANES, MAX_VOICES, count,
-    put_timing, put_voices, timing_of, voices_of,
+    Arrays, BENDS, Bends, CODES, COUNTS, Codes, Counts, FLOATS, Floats, LANES, MAX_VOICES, count,
+    put_timing, put_voices,
 };
 pub use codes::{flag_code, flag_of, restart_code, restart_of, stage_code, unit_code, unit_of};
-pub use voices::{load, params_of, segment_of, stage_of, store};

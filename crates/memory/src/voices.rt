@@ -7,137 +7,135 @@ ghost use Rattle.settings.specs.Settings.{amp};
 ghost use Rattle.memory.specs.Memory as Memory;
 ghost use Rattle.memory.specs.Spaced as Spaced;
 
-use crate::arrays::{Bends, Codes, Counts, Floats, MAX_VOICES};
+use crate::arrays::{Arrays, Bends, Codes, Counts, Floats, MAX_VOICES};
 use crate::codes::{
     flag_code, flag_of, restart_code, restart_of, stage_code, stage_named, unit_code, unit_of,
 };
 use curve::Segment;
 use lane::{Lane, Spec, Voice};
-use settings::{EnvelopeParams, Stage, StealRestart};
-use timing::TimeUnit;
+use settings::{EnvelopeParams, Stage};
 
-fn params_named(
-    f: &Floats,
-    v: usize,
-    unit: TimeUnit,
-    inverted: bool,
-    restart: StealRestart,
-) -> EnvelopeParams
-    requires { v < Memory.max_voices }
-    ensures { result ≡ Memory.params_of (Memory.floats_at f.now v) unit inverted restart }
-{
-    EnvelopeParams {
-        unit: unit,
-        delay: f[340 + 14 * v],
-        attack: f[340 + 14 * v + 1],
-        hold: f[340 + 14 * v + 2],
-        decay: f[340 + 14 * v + 3],
-        sustain: f[340 + 14 * v + 4],
-        release: f[340 + 14 * v + 5],
-        attack_curve: f[340 + 14 * v + 6],
-        decay_curve: f[340 + 14 * v + 7],
-        release_curve: f[340 + 14 * v + 8],
-        start: f[340 + 14 * v + 9],
-        end: f[340 + 14 * v + 10],
-        legato_inverted: inverted,
-        steal_restart: restart,
+impl Arrays {
+    fn load_params(&self, v: usize) -> EnvelopeParams
+        requires { v < Memory.max_voices }
+        ensures { result ≡ Memory.params_at self.now.floats self.now.codes v }
+    {
+        let f = &self.floats;
+        let c = &self.codes;
+        EnvelopeParams {
+            unit: unit_of(c[69 + 5 * v + 1]),
+            delay: f[340 + 14 * v],
+            attack: f[340 + 14 * v + 1],
+            hold: f[340 + 14 * v + 2],
+            decay: f[340 + 14 * v + 3],
+            sustain: f[340 + 14 * v + 4],
+            release: f[340 + 14 * v + 5],
+            attack_curve: f[340 + 14 * v + 6],
+            decay_curve: f[340 + 14 * v + 7],
+            release_curve: f[340 + 14 * v + 8],
+            start: f[340 + 14 * v + 9],
+            end: f[340 + 14 * v + 10],
+            legato_inverted: flag_of(c[69 + 5 * v + 2]),
+            steal_restart: restart_of(c[69 + 5 * v + 3]),
+        }
     }
-}
 
-fn lane_of(
-    f: &Floats,
-    k: &Bends,
-    n: &Counts,
-    c: &Codes,
-    v: usize,
-    params: EnvelopeParams,
-    stage: Stage,
-) -> Lane
-    requires { v < Memory.max_voices }
-    ensures { result ≡ Memory.lane_of (Memory.floats_at f.now v) (Memory.bends_at k.now v) (Memory.counts_at n.now v) (Memory.codes_at c.now v) params stage }
-{
-    Lane {
-        params: params,
-        stage: stage,
-        spec: Spec {
-            total: n[3 * v],
-            to: f[340 + 14 * v + 11],
-            k: k[3 + 2 * v],
-        },
-        from: f[340 + 14 * v + 12],
-        to: f[340 + 14 * v + 13],
-        k: k[3 + 2 * v + 1],
-        curve_total: n[3 * v + 1],
-        pos: n[3 * v + 2],
-        seg_len: c[69 + 5 * v],
+    fn load_stage(&self, v: usize) -> Stage
+        requires { v < Memory.max_voices }
+        ensures { result ≡ Memory.stage_at self.now.codes v }
+    {
+        stage_named(self.codes[69 + 5 * v + 4])
     }
-}
 
-fn load_segment(f: &Floats, c: &Codes, v: usize) -> Segment
-    requires { v < Memory.max_voices }
-    ensures { result ≡ Memory.segment_at f.now c.now v }
-{
-    Segment {
-        u: f[v],
-        r: f[v + 68],
-        d: f[v + 136],
-        scale: f[v + 204],
-        base: f[v + 272],
-        left: c[v],
+    fn load_lane(&self, v: usize) -> Lane
+        requires { v < Memory.max_voices }
+        ensures { result ≡ Memory.lane_of (Memory.floats_at self.now.floats v) (Memory.bends_at self.now.bends v) (Memory.counts_at self.now.counts v) (Memory.codes_at self.now.codes v) (Memory.params_at self.now.floats self.now.codes v) (Memory.stage_at self.now.codes v) }
+    {
+        Lane {
+            params: self.load_params(v),
+            stage: self.load_stage(v),
+            spec: Spec {
+                total: self.counts[3 * v],
+                to: self.floats[340 + 14 * v + 11],
+                k: self.bends[3 + 2 * v],
+            },
+            from: self.floats[340 + 14 * v + 12],
+            to: self.floats[340 + 14 * v + 13],
+            k: self.bends[3 + 2 * v + 1],
+            curve_total: self.counts[3 * v + 1],
+            pos: self.counts[3 * v + 2],
+            seg_len: self.codes[69 + 5 * v],
+        }
     }
-}
 
-fn unit_at(c: &Codes, v: usize) -> TimeUnit
-    requires { v < Memory.max_voices }
-    ensures { result ≡ Memory.unit_of (get_or c.now (69 + 5 * v + 1) 0) }
-{
-    unit_of(c[69 + 5 * v + 1])
-}
+    fn load_segment(&self, v: usize) -> Segment
+        requires { v < Memory.max_voices }
+        ensures { result ≡ Memory.segment_at self.now.floats self.now.codes v }
+    {
+        Segment {
+            u: self.floats[v],
+            r: self.floats[v + 68],
+            d: self.floats[v + 136],
+            scale: self.floats[v + 204],
+            base: self.floats[v + 272],
+            left: self.codes[v],
+        }
+    }
 
-fn flag_at(c: &Codes, v: usize) -> bool
-    requires { v < Memory.max_voices }
-    ensures { result ≡ Memory.flag_of (get_or c.now (69 + 5 * v + 2) 0) }
-{
-    flag_of(c[69 + 5 * v + 2])
-}
+    // The voice v, or an idle one where there is no room for such a voice.
+    pub fn load(&self, v: usize) -> Voice
+        ensures { result ≡ Memory.loaded self.now v }
+    {
+        if v < MAX_VOICES {
+            return Voice {
+                lane: self.load_lane(v),
+                seg: self.load_segment(v),
+            };
+        }
+        Lane::new(EnvelopeParams::AMP)
+    }
 
-fn restart_at(c: &Codes, v: usize) -> StealRestart
-    requires { v < Memory.max_voices }
-    ensures { result ≡ Memory.restart_of (get_or c.now (69 + 5 * v + 3) 0) }
-{
-    restart_of(c[69 + 5 * v + 3])
-}
+    // Its settings alone.
+    pub fn params(&self, v: usize) -> EnvelopeParams
+        ensures { result ≡ Memory.if_room v (Memory.params_at self.now.floats self.now.codes v) amp }
+    {
+        if v < MAX_VOICES {
+            return self.load_params(v);
+        }
+        EnvelopeParams::AMP
+    }
 
-fn stage_at(c: &Codes, v: usize) -> Stage
-    requires { v < Memory.max_voices }
-    ensures { result ≡ Memory.stage_at c.now v }
-{
-    stage_named(c[69 + 5 * v + 4])
-}
+    // Its stage alone.
+    pub fn stage(&self, v: usize) -> Stage
+        ensures { result ≡ Memory.if_room v (Memory.stage_at self.now.codes v) Idle }
+    {
+        if v < MAX_VOICES {
+            return self.load_stage(v);
+        }
+        Stage::Idle
+    }
 
-// The settings of voice v.
-fn load_params(f: &Floats, c: &Codes, v: usize) -> EnvelopeParams
-    requires { v < Memory.max_voices }
-    ensures { result ≡ Memory.params_at f.now c.now v }
-{
-    let unit = unit_at(c, v);
-    let inverted = flag_at(c, v);
-    let restart = restart_at(c, v);
-    params_named(f, v, unit, inverted, restart)
-}
+    // Its segment alone.
+    pub fn segment(&self, v: usize) -> Segment
+        ensures { result ≡ Memory.if_room v (Memory.segment_at self.now.floats self.now.codes v) (Segments.constant Constants.zero 0) }
+    {
+        if v < MAX_VOICES {
+            return self.load_segment(v);
+        }
+        Segment::constant(0.0, 0)
+    }
 
-// The voice v.
-fn load_voice(f: &Floats, k: &Bends, n: &Counts, c: &Codes, v: usize) -> Voice
-    requires { v < Memory.max_voices }
-    ensures { result ≡ Memory.voice_at (Memory.arrays f.now k.now n.now c.now) v }
-{
-    let params = load_params(f, c, v);
-    let stage = stage_at(c, v);
-    let lane = lane_of(f, k, n, c, v, params, stage);
-    let seg = load_segment(f, c, v);
-    Voice {
-        lane: lane,
-        seg: seg,
+    // The voice v becomes `voice`, if there is room for such a voice.
+    pub fn store(&mut self, v: usize, voice: Voice)
+        ensures { Memory.Stored v voice self.old self.new }
+    {
+        if v >= MAX_VOICES {
+            return;
+        }
+        store_floats(&mut self.floats, v, voice.lane);
+        store_counts(&mut self.bends, &mut self.counts, v, voice.lane);
+        store_codes(&mut self.codes, v, voice.lane);
+        store_segment(&mut self.floats, &mut self.codes, v, voice.seg);
     }
 }
 
@@ -154,10 +152,11 @@ fn store_segment(f: &mut Floats, c: &mut Codes, v: usize, s: Segment)
     c[v] = s.left;
 }
 
-fn store_floats(f: &mut Floats, v: usize, p: EnvelopeParams, spec: Spec, from: f32, to: f32)
+fn store_floats(f: &mut Floats, v: usize, lane: Lane)
     requires { v < Memory.max_voices }
-    ensures { f.new ≡ Spaced.puts 1 f.old (340 + 14 * v) (Memory.floats_of p spec from to) }
+    ensures { f.new ≡ Spaced.puts 1 f.old (340 + 14 * v) (Memory.floats_of lane.params lane.spec lane.from lane.to) }
 {
+    let p = lane.params;
     f[340 + 14 * v] = p.delay;
     f[340 + 14 * v + 1] = p.attack;
     f[340 + 14 * v + 2] = p.hold;
@@ -169,124 +168,31 @@ fn store_floats(f: &mut Floats, v: usize, p: EnvelopeParams, spec: Spec, from: f
     f[340 + 14 * v + 8] = p.release_curve;
     f[340 + 14 * v + 9] = p.start;
     f[340 + 14 * v + 10] = p.end;
-    f[340 + 14 * v + 11] = spec.to;
-    f[340 + 14 * v + 12] = from;
-    f[340 + 14 * v + 13] = to;
+    f[340 + 14 * v + 11] = lane.spec.to;
+    f[340 + 14 * v + 12] = lane.from;
+    f[340 + 14 * v + 13] = lane.to;
 }
 
-fn store_counts(
-    k: &mut Bends,
-    n: &mut Counts,
-    v: usize,
-    spec: Spec,
-    bend: f64,
-    total: u64,
-    pos: u64,
-)
+fn store_counts(k: &mut Bends, n: &mut Counts, v: usize, lane: Lane)
     requires { v < Memory.max_voices }
-    ensures bends { k.new ≡ Spaced.puts 1 k.old (3 + 2 * v) (spec.k ∷ bend ∷ []) }
-    ensures counts { n.new ≡ Spaced.puts 1 n.old (3 * v) (spec.total ∷ total ∷ pos ∷ []) }
+    ensures bends { k.new ≡ Spaced.puts 1 k.old (3 + 2 * v) (lane.spec.k ∷ lane.k ∷ []) }
+    ensures counts { n.new ≡ Spaced.puts 1 n.old (3 * v) (lane.spec.total ∷ lane.curve_total ∷ lane.pos ∷ []) }
 {
-    k[3 + 2 * v] = spec.k;
-    k[3 + 2 * v + 1] = bend;
-    n[3 * v] = spec.total;
-    n[3 * v + 1] = total;
-    n[3 * v + 2] = pos;
+    k[3 + 2 * v] = lane.spec.k;
+    k[3 + 2 * v + 1] = lane.k;
+    n[3 * v] = lane.spec.total;
+    n[3 * v + 1] = lane.curve_total;
+    n[3 * v + 2] = lane.pos;
 }
 
-fn store_codes(
-    c: &mut Codes,
-    v: usize,
-    seg_len: u32,
-    unit: u32,
-    inverted: u32,
-    restart: u32,
-    stage: u32,
-)
+fn store_codes(c: &mut Codes, v: usize, lane: Lane)
     requires { v < Memory.max_voices }
-    ensures { c.new ≡ Spaced.puts 1 c.old (69 + 5 * v) (seg_len ∷ unit ∷ inverted ∷ restart ∷ stage ∷ []) }
+    ensures { c.new ≡ Spaced.puts 1 c.old (69 + 5 * v) (Memory.codes_of lane) }
 {
-    c[69 + 5 * v] = seg_len;
-    c[69 + 5 * v + 1] = unit;
-    c[69 + 5 * v + 2] = inverted;
-    c[69 + 5 * v + 3] = restart;
-    c[69 + 5 * v + 4] = stage;
-}
-
-// The voice v becomes `voice`.
-fn store_voice(f: &mut Floats, k: &mut Bends, n: &mut Counts, c: &mut Codes, v: usize, voice: Voice)
-    requires { (v < Memory.max_voices) × Memory.Sized (Memory.arrays f.old k.old n.old c.old) }
-    ensures { Memory.Stored v voice (Memory.arrays f.old k.old n.old c.old) (Memory.arrays f.new k.new n.new c.new) }
-{
-    let lane = voice.lane;
-    let seg = voice.seg;
-    let params = lane.params;
-    let spec = lane.spec;
-    let unit = params.unit;
-    let restart = params.steal_restart;
-    let stage = lane.stage;
-    store_floats(f, v, params, spec, lane.from, lane.to);
-    store_counts(k, n, v, spec, lane.k, lane.curve_total, lane.pos);
-    let a = unit_code(unit);
-    let b = flag_code(params.legato_inverted);
-    let d = restart_code(restart);
-    let e = stage_code(stage);
-    store_codes(c, v, lane.seg_len, a, b, d, e);
-    store_segment(f, c, v, seg);
-}
-
-// The voice v, or an idle one where there is no room for such a voice.
-pub fn load(f: &Floats, k: &Bends, n: &Counts, c: &Codes, v: usize) -> Voice
-    ensures { result ≡ Memory.loaded (Memory.arrays f.now k.now n.now c.now) v }
-{
-    if v < MAX_VOICES {
-        return load_voice(f, k, n, c, v);
-    }
-    Lane::new(EnvelopeParams::AMP)
-}
-
-// Its settings alone.
-pub fn params_of(f: &Floats, c: &Codes, v: usize) -> EnvelopeParams
-    ensures { result ≡ Memory.if_room v (Memory.params_at f.now c.now v) amp }
-{
-    if v < MAX_VOICES {
-        return load_params(f, c, v);
-    }
-    EnvelopeParams::AMP
-}
-
-// Its stage alone.
-pub fn stage_of(c: &Codes, v: usize) -> Stage
-    ensures { result ≡ Memory.if_room v (Memory.stage_at c.now v) Idle }
-{
-    if v < MAX_VOICES {
-        return stage_at(c, v);
-    }
-    Stage::Idle
-}
-
-// Its segment alone.
-pub fn segment_of(f: &Floats, c: &Codes, v: usize) -> Segment
-    ensures { result ≡ Memory.if_room v (Memory.segment_at f.now c.now v) (Segments.constant Constants.zero 0) }
-{
-    if v < MAX_VOICES {
-        return load_segment(f, c, v);
-    }
-    Segment::constant(0.0, 0)
-}
-
-// Does nothing: an array that is lent on as a slice has told its length.
-fn lengths(f: &[f32], k: &[f64], n: &[u64], c: &[u32])
-    requires { Memory.Sized (Memory.arrays f.now k.now n.now c.now) }
-    ensures { Memory.Sized (Memory.arrays f.now k.now n.now c.now) }
-{}
-
-// The voice v becomes `voice`, if there is room for such a voice.
-pub fn store(f: &mut Floats, k: &mut Bends, n: &mut Counts, c: &mut Codes, v: usize, voice: Voice)
-    ensures { Memory.Stored v voice (Memory.arrays f.old k.old n.old c.old) (Memory.arrays f.new k.new n.new c.new) }
-{
-    lengths(f, k, n, c);
-    if v < MAX_VOICES {
-        store_voice(f, k, n, c, v, voice);
-    }
+    let p = lane.params;
+    c[69 + 5 * v] = lane.seg_len;
+    c[69 + 5 * v + 1] = unit_code(p.unit);
+    c[69 + 5 * v + 2] = flag_code(p.legato_inverted);
+    c[69 + 5 * v + 3] = restart_code(p.steal_restart);
+    c[69 + 5 * v + 4] = stage_code(lane.stage);
 }

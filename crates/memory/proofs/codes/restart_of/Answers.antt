@@ -1,8 +1,0 @@
-use borrow.Author.Tests.{eq-eqb, ne_eqb}
-use Rattle.memory.proofs.codes.restart_of.Goals as goal
-
-pub returns-then-code-eq0 : goal.returns-then-code-eq0
-returns-then-code-eq0 c = simp (eq-eqb _ _ c.if-code-eq0.true)
-
-pub returns : goal.returns
-returns c = simp (ne_eqb _ _ c.if-code-eq0.false)
