@@ -26,7 +26,8 @@ use Rattle.filled.proofs.Tables.{tabulate_ext}
 use Rattle.envelope.specs.Parts.{level_after}
 use Rattle.envelope.proofs.Runs.{level_at, level-within}
 use Rattle.memory.specs.Spaced.{place}
-use Rattle.memory.specs.Memory.{Arrays, arrays, voices_at, count_of, timing_at, columns_at, floats_at, u_at, r_at, d_at, scale_at, base_at, left_at, bends_at, counts_at, codes_at, voice_of, voice_at, Same}
+use Rattle.memory.specs.declared.arrays.Arrays.{Arrays}
+use Rattle.memory.specs.Memory.{voices_at, count_of, timing_at, columns_at, floats_at, u_at, r_at, d_at, scale_at, base_at, left_at, bends_at, counts_at, codes_at, voice_of, voice_at, Same}
 use Rattle.memory.proofs.Storing.{voice-same, same_self, same_trans}
 use Rattle.rows.specs.Strides.{groups_of, stride_of}
 use Rattle.rows.specs.Rows.{moved_at, drawn_at, fitting, Cleared, Drawn}
@@ -55,7 +56,7 @@ pub record Ran (n : ℕ) (t : Timing) (m₀ : Arrays) (done : ℕ) (m : Arrays) 
 
 -- Other floats in the same arrays.
 abbrev pub with_floats : List Float → Arrays → Arrays
-with_floats f m = arrays f m.bends m.counts m.codes
+with_floats f m = record { bends = m.bends; counts = m.counts; floats = f; codes = m.codes }
 
 -- Those of a voice's record are kept where every number past the columns is.
 records_kept : (f f' : List Float) → ((i : ℕ) → 340 ≤ i → get_or f' i nan ≡ get_or f i nan) → (w : ℕ) → floats_at f' w ≡ floats_at f w

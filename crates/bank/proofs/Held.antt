@@ -1,5 +1,5 @@
 -- The bank that the arrays hold, after voices were stored in them: one voice, each of them, or none.
-use mathlib.Core.Path.{◌≡◌, refl, sym, ap, ◌∙◌}
+use mathlib.Core.Path.{◌≡◌, refl, sym, ap, ◌∙◌, subst}
 use mathlib.Core.Bool.{Bool, true, false, cond}
 use mathlib.Core.List.{List}
 use mathlib.Core.Logic.{◌⊎◌, inl, inr}
@@ -9,14 +9,21 @@ use borrow.Author.Tests.{lt-ltb, le-ltb, eqb-true, eqb-false}
 use lib.Dec.{eqb}
 use lib.Ieee.{Float}
 use lib.ListN.{length-replicate, get_or-replicate}
+use Rattle.std.specs.Prelude.{Result}
+use Rattle.std.specs.Result.{IsErrAnd}
 use Rattle.timing.specs.declared.Timing.{Timing}
+use Rattle.settings.specs.declared.refusals.Refusal.{Refusal}
+use Rattle.settings.specs.declared.refusals.Refusal.TheVariants.{NoSuchVoice}
+use Rattle.settings.specs.Refusals.{number, number_of}
+use Rattle.settings.proofs.Handed.{number_of-handed}
 use Rattle.settings.specs.declared.settings.EnvelopeParams.{EnvelopeParams}
 use Rattle.settings.specs.Settings.{amp}
 use Rattle.lane.specs.declared.lanes.Voice.{Voice}
 use Rattle.lane.specs.Planning as Planning
 use Rattle.filled.proofs.Filling.{split}
 use Rattle.filled.proofs.Tables.{length-tabulate, get_d_tabulate}
-use Rattle.memory.specs.Memory.{Arrays, arrays, lanes, voices_at, count_of, timing_at, voice_at, loaded, Same, TimingPut, VoicesPut, Stored}
+use Rattle.memory.specs.declared.arrays.Arrays.{Arrays}
+use Rattle.memory.specs.Memory.{lanes, voices_at, count_of, timing_at, voice_at, loaded, Same, TimingPut, VoicesPut, Stored}
 use Rattle.memory.proofs.Storing.{room, voice-same, same_self, same_trans}
 use Rattle.bank.specs.Banks.{Bank, bank_of, size, voice, put, on_all, with_timing, idle}
 use Rattle.bank.specs.Lent.{KeptFrom}
@@ -69,13 +76,18 @@ one-done v g y m m' h e S =
       kept = record { refused = λ d. absurd (d refl); beside = λ w i j. S.there w j (λ q. omega (arith, h, i, q)) };
     }
 
-pub one-refused : (v : ℕ) (g : Voice → Voice) (m : Arrays) → count_of m.codes ≤ v → One v g 2 m m
+one-refused : (v : ℕ) (g : Voice → Voice) (m : Arrays) → count_of m.codes ≤ v → One v g 2 m m
 one-refused v g m h =
     record {
       refusal = sym (rw (le-ltb v (size (bank_of m)) (omega (arith, h, size_of m))));
       bank = refl;
       kept = record { refused = λ d. refl; beside = λ w i j. same_self w m };
     }
+
+-- Refused by the test for the voice.
+pub one-missing : (v : ℕ) (g : Voice → Voice) (m : Arrays) {A : Type 0} (r : Result A Refusal) (e : Refusal) → IsErrAnd r (λ x. x ≡ e)
+    → (e ≡ NoSuchVoice) × (count_of m.codes ≤ v) → One v g (number_of r) m m
+one-missing v g m r e i h = subst (λ (n : ℕ). One v g n m m) (sym (number_of-handed r e i ∙ ap number h.0)) (one-refused v g m h.1)
 
 -- ---- each voice
 
@@ -125,7 +137,7 @@ module _ (g : Voice → Voice) (m : Arrays) where
 -- Another timing.
 module _ (t : Timing) (m : Arrays) (k' : List Float) (T : TimingPut t m.bends k') where
   abbrev pub timed : Arrays
-  timed = arrays m.floats k' m.counts m.codes
+  timed = record { bends = k'; counts = m.counts; floats = m.floats; codes = m.codes }
 
   pub timed-same : (w : ℕ) → Same w m timed
   timed-same w = record { columns = refl; left = refl; floats = refl; bends = T.there w; counts = refl; codes = refl }
@@ -136,7 +148,7 @@ module _ (t : Timing) (m : Arrays) (k' : List Float) (T : TimingPut t m.bends k'
 -- A fresh bank: the number of voices, the timing, then idle voices.
 module _ (n : ℕ) (t : Timing) (m : Arrays) (k' : List Float) (c' : List ℕ) (T : TimingPut t m.bends k') (N : VoicesPut (min n 64) m.codes c') where
   abbrev begun : Arrays
-  begun = arrays m.floats k' m.counts c'
+  begun = record { bends = k'; counts = m.counts; floats = m.floats; codes = c' }
 
   begun-same : (w : ℕ) → w < lanes → Same w m begun
   begun-same w h = record { columns = refl; left = N.left w h; floats = refl; bends = T.there w; counts = refl; codes = N.there w }

@@ -3,12 +3,18 @@ use mathlib.Core.Path.{◌≡◌, sym, ap, ◌∙◌}
 use Prim.Native.Nat.{ℕ, ◌≤◌, ◌<◌}
 use native.Mathlib.Omega.{arith}
 use borrow.Author.Tests.{lt-ltb, le-ltb}
+use Rattle.std.specs.Prelude.{Result, Ok, Err}
+use Rattle.std.specs.Result.{IsErrAnd}
+use Rattle.settings.specs.declared.refusals.Refusal.{Refusal}
+use Rattle.settings.specs.declared.refusals.Refusal.TheVariants.{NoSuchVoice}
+use Rattle.settings.specs.Refusals.{number}
 use Rattle.lane.specs.declared.lanes.Voice.{Voice}
 use Rattle.envelope.specs.declared.envelopes.Envelope.{Envelope}
-use Rattle.memory.specs.Memory.{Arrays, count_of, timing_at, voice_at}
+use Rattle.memory.specs.declared.arrays.Arrays.{Arrays}
+use Rattle.memory.specs.Memory.{count_of, timing_at, voice_at}
 use Rattle.bank.specs.Calls.{Call, Query, named, refusal, query_refusal}
 use Rattle.bank.specs.Banks.{bank_of, size, known, envelope}
-use Rattle.bank.specs.Replies.{Reply, told, reply}
+use Rattle.bank.specs.Replies.{Reply, told, reply, of_reading}
 use Rattle.bank.proofs.Held.{size_of, voice_of_lem}
 
 -- Voice v of the arrays as a single envelope.
@@ -25,6 +31,10 @@ module _ (m : Arrays) (q : Query) (v : ℕ) (names : query_refusal (known (bank_
       ∙ sym e
       ∙ rw (names, lt-ltb v (size (bank_of m)) (omega (arith, h, size_of m)))
 
-  pub reading_missing : count_of m.codes ≤ v → Reply.refused 2 ≡ reply (bank_of m) (Call.ask q)
-  unfolding reply refusal
-  reading_missing h = rw (names, le-ltb v (size (bank_of m)) (omega (arith, h, size_of m)))
+  -- The test for the voice found none.
+  pub reading_missing : {A : Type 0} (f : A → Reply) (r : Result A Refusal) (e : Refusal) → IsErrAnd r (λ x. x ≡ e) → (e ≡ NoSuchVoice) × (count_of m.codes ≤ v)
+      → of_reading f r ≡ reply (bank_of m) (Call.ask q)
+  unfolding of_reading reply refusal
+  reading_missing f (Ok x) e i h = absurd i
+  reading_missing f (Err x) e i h =
+      ap (λ (x : Refusal). Reply.refused (number x)) (i ∙ h.0) ∙ rw (names, le-ltb v (size (bank_of m)) (omega (arith, h.1, size_of m)))

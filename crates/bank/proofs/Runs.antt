@@ -19,7 +19,8 @@ use Rattle.filled.specs.Filled.{Filled}
 use Rattle.filled.proofs.Filling.{split}
 use Rattle.filled.proofs.Tables.{tabulate_ext}
 use Rattle.envelope.proofs.Runs.{run_ends}
-use Rattle.memory.specs.Memory.{Arrays, arrays, left_at, codes_at, voice_at, loaded, Stored}
+use Rattle.memory.specs.declared.arrays.Arrays.{Arrays}
+use Rattle.memory.specs.Memory.{left_at, codes_at, voice_at, loaded, Stored}
 use Rattle.memory.specs.Spaced.{place}
 use Rattle.memory.proofs.Storing.{room, same_trans}
 use Rattle.rows.specs.Runs.{left_after, until_end, Counts, next_ended}
@@ -90,7 +91,7 @@ module _ (n run : ℕ) (m : Arrays) (few : n ≤ 64) where
   -- The counts of the first n lanes go down.
   module _ (c' : List ℕ) (G : Filled 0 (λ v. left_after (left_at m.codes v) run) 0 (min n 64) m.codes c') where
     abbrev pub less : Arrays
-    less = arrays m.floats m.bends m.counts c'
+    less = record { bends = m.bends; counts = m.counts; floats = m.floats; codes = c' }
 
     F : Filled 0 (λ v. left_after (left_at m.codes v) run) 0 n m.codes c'
     F =

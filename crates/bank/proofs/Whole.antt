@@ -17,7 +17,8 @@ use Rattle.curve.specs.Segments as Segments
 use Rattle.lane.specs.declared.lanes.Voice.{Voice}
 use Rattle.lane.specs.Voices as Voices
 use Rattle.filled.proofs.Filling.{split}
-use Rattle.memory.specs.Memory.{Arrays, count_of, timing_at, voice_at}
+use Rattle.memory.specs.declared.arrays.Arrays.{Arrays}
+use Rattle.memory.specs.Memory.{count_of, timing_at, voice_at}
 use Rattle.memory.proofs.Storing.{same_self}
 use Rattle.rows.specs.Strides.{groups_of, stride_of}
 use Rattle.rows.specs.Rows.{float_cell, byte_cell, Cleared}

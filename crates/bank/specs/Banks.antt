@@ -13,7 +13,8 @@ use Rattle.lane.specs.Planning as Planning
 use Rattle.lane.specs.Voices as Voices
 use Rattle.envelope.specs.declared.envelopes.Envelope.{Envelope}
 use Rattle.filled.specs.Tables.{tabulate}
-use Rattle.memory.specs.Memory.{Arrays, count_of, timing_at, voice_at}
+use Rattle.memory.specs.declared.arrays.Arrays.{Arrays}
+use Rattle.memory.specs.Memory.{count_of, timing_at, voice_at}
 use Rattle.rows.specs.Strides.{stride_of}
 use Rattle.bank.specs.declared.known.Known.{Known}
 use Rattle.bank.specs.Calls.{Opening, Call, if_accepted, opening_refusal, opened, refusal}

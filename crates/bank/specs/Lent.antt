@@ -1,6 +1,7 @@
 -- Frame conditions: what a call leaves of the numbers that are lent to it and that its bank does not read.
 use Rattle.std.specs.Prelude.{◌≢◌, ◌≡◌, ℕ, ◌≤◌, ◌<◌}
-use Rattle.memory.specs.Memory.{Arrays, lanes, count_of, floats_at, bends_at, counts_at, codes_at, left_at, Same}
+use Rattle.memory.specs.declared.arrays.Arrays.{Arrays}
+use Rattle.memory.specs.Memory.{lanes, count_of, floats_at, bends_at, counts_at, codes_at, left_at, Same}
 use Rattle.rows.specs.Strides.{stride_of}
 use Rattle.rows.specs.Rows.{Silent}
 

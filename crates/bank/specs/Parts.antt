@@ -4,7 +4,8 @@ use Rattle.timing.specs.declared.Timing.{Timing}
 use Rattle.lane.specs.declared.lanes.Voice.{Voice}
 use Rattle.lane.specs.Planning as Planning
 use Rattle.lane.specs.Voices as Voices
-use Rattle.memory.specs.Memory.{Arrays, count_of, voices_at, timing_at, voice_at}
+use Rattle.memory.specs.declared.arrays.Arrays.{Arrays}
+use Rattle.memory.specs.Memory.{count_of, voices_at, timing_at, voice_at}
 use Rattle.rows.specs.Runs.{left_after}
 use Rattle.bank.specs.declared.changes.Change.{Change}
 use Rattle.bank.specs.declared.changes.Change.TheVariants.{Params, Replan, Trigger, Release, Reset, Join, Follow}

@@ -1,14 +1,11 @@
 -- What each call replies, in document 01's numbers and values.
-use Rattle.std.specs.Prelude.{ℕ, ◌/◌, Bool, List, Float}
+use Rattle.std.specs.Prelude.{ℕ, ◌/◌, Bool, List, Float, Result, Ok, Err}
 use Rattle.settings.specs.declared.settings.EnvelopeParams.{EnvelopeParams}
 use Rattle.settings.specs.declared.stages.Stage.{Stage}
+use Rattle.settings.specs.declared.refusals.Refusal.{Refusal}
+use Rattle.settings.specs.Refusals.{number}
 use Rattle.envelope.specs.declared.envelopes.Envelope.{Envelope}
 use Rattle.envelope.specs.Envelopes as Envelopes
-use Rattle.bank.specs.declared.readings.ParamsReading.{ParamsReading}
-use Rattle.bank.specs.declared.readings.StageReading.{StageReading}
-use Rattle.bank.specs.declared.readings.LevelReading.{LevelReading}
-use Rattle.bank.specs.declared.readings.IdleReading.{IdleReading}
-use Rattle.bank.specs.declared.readings.FramesReading.{FramesReading}
 use Rattle.bank.specs.declared.known.Known.{Known}
 use Rattle.bank.specs.Calls.{Query, Call, if_accepted, refusal}
 use Rattle.rows.specs.Strides.{stride_of}
@@ -55,24 +52,9 @@ replied k e drawn c = if_accepted (refusal k c) (answered k e drawn c) (Reply.re
 unfoldable pub reply : Bank → Call → Reply
 reply b c = replied (known b) (envelope b) (λ n. rows n b) c
 
--- ---- the readings' enums, in document 01's numbers and values
+-- ---- a reading's answer, in document 01's numbers and values
 
-unfoldable pub of_params : ParamsReading → Reply
-of_params (ParamsReading.Params p) = Reply.params p
-of_params ParamsReading.NoSuchVoice = Reply.refused 2
-
-unfoldable pub of_stage : StageReading → Reply
-of_stage (StageReading.Stage s) = Reply.stage s
-of_stage StageReading.NoSuchVoice = Reply.refused 2
-
-unfoldable pub of_level : LevelReading → Reply
-of_level (LevelReading.Level x) = Reply.level x
-of_level LevelReading.NoSuchVoice = Reply.refused 2
-
-unfoldable pub of_idle : IdleReading → Reply
-of_idle (IdleReading.Idle x) = Reply.is_idle x
-of_idle IdleReading.NoSuchVoice = Reply.refused 2
-
-unfoldable pub of_frames : FramesReading → Reply
-of_frames (FramesReading.Frames n) = Reply.count n
-of_frames FramesReading.NoSuchVoice = Reply.refused 2
+-- What it told, or the refusal.
+unfoldable pub of_reading : {A : Type 0} → (A → Reply) → Result A Refusal → Reply
+of_reading told (Ok x) = told x
+of_reading told (Err r) = Reply.refused (number r)

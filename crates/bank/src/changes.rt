@@ -1,11 +1,13 @@
 // A voice changed where it lies: put together from the arrays, changed, and stored.
 ghost use Rattle.std.specs.Prelude.{◌≡◌};
+ghost use Rattle.settings.specs.Refusals as Refusals;
 ghost use Rattle.memory.specs.Memory as Memory;
 ghost use Rattle.bank.specs.Parts as Parts;
 
+use crate::banks::check;
 use lane::Voice;
-use memory::{Bends, Codes, Counts, Floats, load, store, timing_of, voices_of};
-use settings::{ACCEPTED, EnvelopeParams, NO_SUCH_VOICE, Trigger};
+use memory::Arrays;
+use settings::{EnvelopeParams, Refusal, Trigger};
 use timing::Timing;
 
 // What a call, or a segment's end, makes of a voice.
@@ -37,49 +39,29 @@ fn changed(voice: Voice, timing: Timing, change: Change) -> Voice
 }
 
 // The voice v, if there is room for such a voice.
-pub(crate) fn change_voice(
-    f: &mut Floats,
-    k: &mut Bends,
-    n: &mut Counts,
-    c: &mut Codes,
-    v: usize,
-    timing: Timing,
-    change: Change,
-)
-    ensures { Memory.Stored v (Parts.changed timing change (Memory.loaded (Memory.arrays f.old k.old n.old c.old) v)) (Memory.arrays f.old k.old n.old c.old) (Memory.arrays f.new k.new n.new c.new) }
+pub(crate) fn change_voice(m: &mut Arrays, v: usize, timing: Timing, change: Change)
+    ensures { Memory.Stored v (Parts.changed timing change (Memory.loaded m.old v)) m.old m.new }
 {
-    let before = load(f, k, n, c, v);
-    let after = changed(before, timing, change);
-    store(f, k, n, c, v, after);
+    m.store(v, changed(m.load(v), timing, change));
 }
 
 // The voice v, by a call that is refused if there is no such voice.
-pub(crate) fn with(
-    f: &mut Floats,
-    k: &mut Bends,
-    n: &mut Counts,
-    c: &mut Codes,
-    v: usize,
-    by: Change,
-) -> u32
-    ensures { Parts.One v (Parts.changed (Memory.timing_at k.old) by) result (Memory.arrays f.old k.old n.old c.old) (Memory.arrays f.new k.new n.new c.new) }
+pub(crate) fn with(m: &mut Arrays, v: usize, by: Change) -> Result<(), Refusal>
+    ensures { Parts.One v (Parts.changed (Memory.timing_at m.old.bends) by) (Refusals.number_of result) m.old m.new }
 {
-    if v < voices_of(c) {
-        change_voice(f, k, n, c, v, timing_of(k), by);
-        return ACCEPTED;
-    }
-    NO_SUCH_VOICE
+    check(m, v)?;
+    let timing = m.timing();
+    change_voice(m, v, timing, by);
+    Ok(())
 }
 
 // Every voice.
-pub(crate) fn with_all(f: &mut Floats, k: &mut Bends, n: &mut Counts, c: &mut Codes, by: Change)
-    ensures { Parts.All (Parts.changed (Memory.timing_at k.old) by) (Memory.arrays f.old k.old n.old c.old) (Memory.arrays f.new k.new n.new c.new) }
+pub(crate) fn with_all(m: &mut Arrays, by: Change)
+    ensures { Parts.All (Parts.changed (Memory.timing_at m.old.bends) by) m.old m.new }
 {
-    let timing = timing_of(k);
-    let voices = voices_of(c);
-    let mut v = 0;
-    while v < voices {
-        change_voice(f, k, n, c, v, timing, by);
-        v += 1;
+    let timing = m.timing();
+    let voices = m.voices();
+    for v in 0..voices {
+        change_voice(m, v, timing, by);
     }
 }

@@ -1,18 +1,31 @@
 // What is known of a bank by its calls alone, and what refusals read of it: a list can be checked by
 // it before there is a bank.
 ghost use Rattle.std.specs.Prelude.{◌≡◌, min};
+ghost use Rattle.settings.specs.Refusals as Refusals;
 ghost use Rattle.memory.specs.Memory as Memory;
 ghost use Rattle.rows.specs.Strides as Strides;
 ghost use Rattle.bank.specs.Calls as Calls;
 
 use memory::MAX_VOICES;
-use settings::{ACCEPTED, EnvelopeParams, NO_SUCH_VOICE, TOO_MANY_VOICES};
+use settings::{EnvelopeParams, Refusal};
 use timing::Timing;
 
 // How many voices it has.
 #[derive(Clone, Copy)]
 pub struct Known {
     pub voices: usize,
+}
+
+impl Known {
+    // Whether a call that names this voice is accepted.
+    pub fn check_voice(self, voice: usize) -> Result<(), Refusal>
+        ensures { Refusals.number_of result ≡ Calls.named self voice 0 }
+    {
+        if voice < self.voices {
+            return Ok(());
+        }
+        Err(Refusal::NoSuchVoice)
+    }
 }
 
 // The lanes of a row of so many voices.
@@ -22,22 +35,12 @@ pub fn stride_of(voices: usize) -> usize
     16 * rows::groups(voices)
 }
 
-// Whether a fresh bank of these is refused.
-pub fn refused_opening(voices: usize, params: EnvelopeParams, timing: Timing) -> u32
-    ensures { result ≡ Calls.opening_refusal (Calls.opening voices params timing) }
+// Whether a fresh bank of these is accepted.
+pub fn check_opening(voices: usize, params: EnvelopeParams, timing: Timing) -> Result<(), Refusal>
+    ensures { Refusals.number_of result ≡ Calls.opening_refusal (Calls.opening voices params timing) }
 {
     if voices > MAX_VOICES {
-        return TOO_MANY_VOICES;
+        return Err(Refusal::TooManyVoices);
     }
-    settings::refused_fresh(params, timing)
-}
-
-// Whether a call that names this voice is refused.
-pub fn refused_voice(known: Known, voice: usize) -> u32
-    ensures { result ≡ Calls.named known voice 0 }
-{
-    if voice < known.voices {
-        return ACCEPTED;
-    }
-    NO_SUCH_VOICE
+    settings::check_fresh(params, timing)
 }

@@ -1,118 +1,74 @@
-// What is read of the bank, and of one of its voices.
+// What is read of the bank, and of one of its voices. Refused, where a voice is named: 2 no such voice.
 ghost use Rattle.std.specs.Prelude.{◌≡◌};
-ghost use Rattle.memory.specs.Memory as Memory;
 ghost use Rattle.rows.specs.Strides as Strides;
 ghost use Rattle.bank.specs.Banks as Banks;
 ghost use Rattle.bank.specs.Calls.{Call, Query};
 ghost use Rattle.bank.specs.Replies as Replies;
+ghost use Rattle.bank.specs.Replies.{Reply};
 
-use memory::{
-    Bends, Codes, Counts, Floats, load, params_of, segment_of, stage_of, timing_of, voices_of,
-};
-use settings::{EnvelopeParams, Stage};
+use crate::banks::{Bank, check};
+use settings::{EnvelopeParams, Refusal, Stage};
 
-// A voice that the bank has. That it has no such voice is document 01's number 2.
-#[derive(Clone, Copy)]
-pub enum ParamsReading {
-    Params(EnvelopeParams),
-    NoSuchVoice,
-}
-
-#[derive(Clone, Copy)]
-pub enum StageReading {
-    Stage(Stage),
-    NoSuchVoice,
-}
-
-#[derive(Clone, Copy)]
-pub enum LevelReading {
-    Level(f32),
-    NoSuchVoice,
-}
-
-#[derive(Clone, Copy)]
-pub enum IdleReading {
-    Idle(bool),
-    NoSuchVoice,
-}
-
-// A number of frames.
-#[derive(Clone, Copy)]
-pub enum FramesReading {
-    Frames(u64),
-    NoSuchVoice,
-}
-
-// The bank's voice count.
-pub fn voices(f: &Floats, k: &Bends, n: &Counts, c: &Codes) -> usize
-    ensures { result ≡ Banks.size (Banks.bank_of (Memory.arrays f.now k.now n.now c.now)) }
-{
-    voices_of(c)
-}
-
-// How many levels a frame takes of an output of `process`.
-pub fn stride(f: &Floats, k: &Bends, n: &Counts, c: &Codes) -> usize
-    ensures { result ≡ Strides.stride_of (Banks.size (Banks.bank_of (Memory.arrays f.now k.now n.now c.now))) }
-{
-    16 * rows::groups(voices_of(c))
-}
-
-// The settings that a voice has.
-pub fn params(f: &Floats, k: &Bends, n: &Counts, c: &Codes, voice: usize) -> ParamsReading
-    ensures { Replies.of_params result ≡ Replies.reply (Banks.bank_of (Memory.arrays f.now k.now n.now c.now)) (Call.ask (Query.params voice)) }
-{
-    if voice < voices_of(c) {
-        return ParamsReading::Params(params_of(f, c, voice));
+impl Bank {
+    // The bank's voice count.
+    pub fn voices(&self) -> usize
+        ensures { result ≡ Banks.size (Banks.bank_of self.now.arrays) }
+    {
+        self.arrays.voices()
     }
-    ParamsReading::NoSuchVoice
-}
 
-// The stage that a voice's next level belongs to.
-pub fn stage(f: &Floats, k: &Bends, n: &Counts, c: &Codes, voice: usize) -> StageReading
-    ensures { Replies.of_stage result ≡ Replies.reply (Banks.bank_of (Memory.arrays f.now k.now n.now c.now)) (Call.ask (Query.stage voice)) }
-{
-    if voice < voices_of(c) {
-        return StageReading::Stage(stage_of(c, voice));
+    // How many levels a frame takes of an output of `process`.
+    pub fn stride(&self) -> usize
+        ensures { result ≡ Strides.stride_of (Banks.size (Banks.bank_of self.now.arrays)) }
+    {
+        16 * rows::groups(self.arrays.voices())
     }
-    StageReading::NoSuchVoice
-}
 
-// What the next frame would hand out of a voice.
-pub fn level(f: &Floats, k: &Bends, n: &Counts, c: &Codes, voice: usize) -> LevelReading
-    ensures { Replies.of_level result ≡ Replies.reply (Banks.bank_of (Memory.arrays f.now k.now n.now c.now)) (Call.ask (Query.level voice)) }
-{
-    if voice < voices_of(c) {
-        return LevelReading::Level(segment_of(f, c, voice).level());
+    // The settings that a voice has.
+    pub fn params(&self, voice: usize) -> Result<EnvelopeParams, Refusal>
+        ensures { Replies.of_reading Reply.params result ≡ Replies.reply (Banks.bank_of self.now.arrays) (Call.ask (Query.params voice)) }
+    {
+        check(&self.arrays, voice)?;
+        Ok(self.arrays.params(voice))
     }
-    LevelReading::NoSuchVoice
-}
 
-// Whether a voice is in Idle.
-pub fn is_idle(f: &Floats, k: &Bends, n: &Counts, c: &Codes, voice: usize) -> IdleReading
-    ensures { Replies.of_idle result ≡ Replies.reply (Banks.bank_of (Memory.arrays f.now k.now n.now c.now)) (Call.ask (Query.is_idle voice)) }
-{
-    if voice < voices_of(c) {
-        return IdleReading::Idle(stage_of(c, voice).is_idle());
+    // The stage that a voice's next level belongs to.
+    pub fn stage(&self, voice: usize) -> Result<Stage, Refusal>
+        ensures { Replies.of_reading Reply.stage result ≡ Replies.reply (Banks.bank_of self.now.arrays) (Call.ask (Query.stage voice)) }
+    {
+        check(&self.arrays, voice)?;
+        Ok(self.arrays.stage(voice))
     }
-    IdleReading::NoSuchVoice
-}
 
-// 0 when a voice is idle, else its release's count of samples.
-pub fn tail(f: &Floats, k: &Bends, n: &Counts, c: &Codes, voice: usize) -> FramesReading
-    ensures { Replies.of_frames result ≡ Replies.reply (Banks.bank_of (Memory.arrays f.now k.now n.now c.now)) (Call.ask (Query.tail voice)) }
-{
-    if voice < voices_of(c) {
-        return FramesReading::Frames(load(f, k, n, c, voice).tail(timing_of(k)));
+    // What the next frame would hand out of a voice.
+    pub fn level(&self, voice: usize) -> Result<f32, Refusal>
+        ensures { Replies.of_reading Reply.level result ≡ Replies.reply (Banks.bank_of self.now.arrays) (Call.ask (Query.level voice)) }
+    {
+        check(&self.arrays, voice)?;
+        Ok(self.arrays.segment(voice).level())
     }
-    FramesReading::NoSuchVoice
-}
 
-// The frames until a voice's Sustain, were only frames to follow; 0 in Idle, Sustain and Release.
-pub fn lead(f: &Floats, k: &Bends, n: &Counts, c: &Codes, voice: usize) -> FramesReading
-    ensures { Replies.of_frames result ≡ Replies.reply (Banks.bank_of (Memory.arrays f.now k.now n.now c.now)) (Call.ask (Query.lead voice)) }
-{
-    if voice < voices_of(c) {
-        return FramesReading::Frames(load(f, k, n, c, voice).lead(timing_of(k)));
+    // Whether a voice is in Idle.
+    pub fn is_idle(&self, voice: usize) -> Result<bool, Refusal>
+        ensures { Replies.of_reading Reply.is_idle result ≡ Replies.reply (Banks.bank_of self.now.arrays) (Call.ask (Query.is_idle voice)) }
+    {
+        check(&self.arrays, voice)?;
+        Ok(self.arrays.stage(voice).is_idle())
     }
-    FramesReading::NoSuchVoice
+
+    // 0 when a voice is idle, else its release's count of samples.
+    pub fn tail(&self, voice: usize) -> Result<u64, Refusal>
+        ensures { Replies.of_reading Reply.count result ≡ Replies.reply (Banks.bank_of self.now.arrays) (Call.ask (Query.tail voice)) }
+    {
+        check(&self.arrays, voice)?;
+        Ok(self.arrays.load(voice).tail(self.arrays.timing()))
+    }
+
+    // The frames until a voice's Sustain, were only frames to follow; 0 in Idle, Sustain and Release.
+    pub fn lead(&self, voice: usize) -> Result<u64, Refusal>
+        ensures { Replies.of_reading Reply.count result ≡ Replies.reply (Banks.bank_of self.now.arrays) (Call.ask (Query.lead voice)) }
+    {
+        check(&self.arrays, voice)?;
+        Ok(self.arrays.load(voice).lead(self.arrays.timing()))
+    }
 }

@@ -3,7 +3,7 @@ ghost use Rattle.std.specs.Prelude.{◌≡◌};
 ghost use Rattle.envelope.specs.Envelopes as Envelopes;
 
 use lane::{Lane, Voice};
-use settings::{ACCEPTED, EnvelopeParams, Stage, Trigger};
+use settings::{EnvelopeParams, Stage, Trigger};
 use timing::Timing;
 
 // A voice, and the timing that its counts are made with.
@@ -33,8 +33,8 @@ impl Envelope {
     pub fn fresh(params: EnvelopeParams, timing: Timing) -> Answer
         ensures { result ≡ Envelopes.fresh params timing }
     {
-        let refusal = settings::refused_fresh(params, timing);
-        if refusal != ACCEPTED {
+        let refusal = settings::number_of(settings::check_fresh(params, timing));
+        if refusal != 0 {
             return Answer {
                 refusal: refusal,
                 envelope: Envelope {
@@ -44,7 +44,7 @@ impl Envelope {
             };
         }
         Answer {
-            refusal: ACCEPTED,
+            refusal: 0,
             envelope: Envelope {
                 voice: Lane::new(params),
                 timing: timing,
@@ -56,8 +56,8 @@ impl Envelope {
     pub fn with_params(self, params: EnvelopeParams) -> Answer
         ensures { result ≡ Envelopes.set_params params self }
     {
-        let refusal = settings::refused_params(params);
-        if refusal != ACCEPTED {
+        let refusal = settings::number_of(settings::check_params(params));
+        if refusal != 0 {
             return Answer {
                 refusal: refusal,
                 envelope: self,
@@ -65,7 +65,7 @@ impl Envelope {
         }
         let timing = self.timing;
         Answer {
-            refusal: ACCEPTED,
+            refusal: 0,
             envelope: Envelope {
                 voice: self.voice.set_params(timing, params),
                 timing: timing,
@@ -77,15 +77,15 @@ impl Envelope {
     pub fn with_timing(self, timing: Timing) -> Answer
         ensures { result ≡ Envelopes.set_timing timing self }
     {
-        let refusal = settings::refused_timing(timing);
-        if refusal != ACCEPTED {
+        let refusal = settings::number_of(settings::check_timing(timing));
+        if refusal != 0 {
             return Answer {
                 refusal: refusal,
                 envelope: self,
             };
         }
         Answer {
-            refusal: ACCEPTED,
+            refusal: 0,
             envelope: Envelope {
                 voice: self.voice.replan(timing),
                 timing: timing,

@@ -2,7 +2,6 @@
 -- `stored_as`).
 use mathlib.Core.Path.{ap, ◌∙◌}
 use Rattle.lane.specs.declared.lanes.Voice.{Voice}
-use Rattle.memory.specs.Memory.{arrays}
 use Rattle.memory.proofs.Storing.{stored_as}
 use Rattle.bank.specs.Parts.{changed}
 use Rattle.bank.proofs.changes.change_voice.Goals as goal
@@ -10,6 +9,6 @@ use Rattle.bank.proofs.changes.change_voice.Goals as goal
 pub returns : goal.returns
 returns c =
     let a = c.args in
-    let m = arrays a.f.now a.k.now a.n.now a.c.now in
+    let m = a.m.now in
     stored_as a.v _ _ m _
-    (c.changed-after.ensures ∙ ap (λ (x : Voice). changed a.timing a.change x) c.load-before.ensures) c.store.ensures
+    (c.changed.ensures ∙ ap (λ (x : Voice). changed a.timing a.change x) c.load.ensures) c.store.ensures

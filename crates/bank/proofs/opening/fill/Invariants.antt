@@ -1,10 +1,5 @@
-use Prim.Native.Nat.{◌-◌, ◌≤◌}
-use Rattle.memory.specs.Memory.{arrays}
 use Rattle.bank.specs.Parts.{Spread}
 use Rattle.bank.proofs.opening.fill.Given as goal
 
 abbrev pub invariant-loop-v : goal.invariant-loop-v
-invariant-loop-v l = (l.v ≤ l.voices) × Spread (λ _. l.voice) l.v (arrays l.initial.f l.initial.k l.initial.n l.initial.c) (arrays l.f l.k l.n l.c)
-
-abbrev pub decreases-loop-v : goal.decreases-loop-v
-decreases-loop-v l = l.voices - l.v
+invariant-loop-v l = Spread (λ _. l.voice) l.v l.initial.m l.m

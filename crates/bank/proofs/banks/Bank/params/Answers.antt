@@ -1,0 +1,27 @@
+use mathlib.Core.Path.{refl, ap, ◌∙◌}
+use Prim.Native.Nat.{◌<◌}
+use native.Mathlib.Omega.{arith}
+use Rattle.envelope.specs.declared.envelopes.Envelope.{Envelope}
+use Rattle.envelope.specs.Envelopes as Envelopes
+use Rattle.memory.specs.Memory.{count_of, voice_at}
+use Rattle.memory.proofs.Storing.{room}
+use Rattle.bank.specs.Calls.{Query, query_refusal}
+use Rattle.bank.specs.Replies.{Reply, told, of_reading}
+use Rattle.bank.proofs.Replying.{reading_present, reading_missing}
+use Rattle.bank.proofs.banks.Bank.params.Goals as goal
+
+pub returns-in_err-check : goal.returns-in_err-check
+unfolding query_refusal
+returns-in_err-check c =
+    let a = c.args in
+    reading_missing a.self.now.arrays (Query.params a.voice) a.voice refl Reply.params c.from_residual.result c.in_err-check.field-0.0 c.from_residual.ensures.1 c.in_err-check.ensures
+
+pub returns : goal.returns
+unfolding voice_at query_refusal told of_reading
+returns c =
+    let a = c.args in
+    let m = a.self.now.arrays in
+    let n : a.voice < count_of a.self.now.arrays.codes = c.in_ok-check.ensures in
+    let h : a.voice < 64 = omega (arith, n) in
+    ap Reply.params (c.params.ensures ∙ room a.voice _ _ h)
+    ∙ reading_present m (Query.params a.voice) a.voice refl (λ (e : Envelope). Reply.params (Envelopes.params e)) refl n

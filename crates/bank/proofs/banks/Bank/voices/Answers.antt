@@ -1,0 +1,6 @@
+use mathlib.Core.Path.{sym, ◌∙◌}
+use Rattle.bank.proofs.Held.{size_of}
+use Rattle.bank.proofs.banks.Bank.voices.Goals as goal
+
+pub returns : goal.returns
+returns c = let a = c.args in c.voices.ensures ∙ sym (size_of a.self.now.arrays)
