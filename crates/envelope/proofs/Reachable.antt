@@ -5,7 +5,6 @@ use mathlib.Core.Bool.{Bool, true, false, cond, true≢false}
 use mathlib.Core.List.{List, [], ◌∷◌}
 use Prim.Native.Nat.{ℕ, zero, suc}
 use native.Mathlib.Omega.{arith}
-use borrow.Author.Tests.{eqb-true}
 use lib.Dec.{eqb}
 use lib.Ieee.{lt, of_bits}
 use Rattle.timing.specs.declared.Timing.{Timing}
@@ -40,8 +39,7 @@ counts e r = counted_limited e.voice.lane.params e.timing r.times r.rate
 
 -- What is accepted is within the limit.
 accepted : (x : Bool) (n : ℕ) → eqb (cond x (suc n) 0) 0 ≡ true → x ≡ false
-accepted true n e = absurd (omega (arith, eqb-true (suc n) 0 e))
-accepted false n e = refl
+accepted x n e = grind arith
 
 answered : (n : ℕ) (a b : Envelope) → Reachable a → (eqb n 0 ≡ true → Reachable b) → Reachable (answer n a b).envelope
 answered n a b p q = go (eqb n 0) q
@@ -57,12 +55,11 @@ blank-reachable = record { times = refl; rate = refl; sound = new-sound most _ }
 fresh-reachable : (p : EnvelopeParams) (t : Timing) → Reachable (fresh p t).envelope
 unfolding Refusals.fresh Refusals.params Planning.new
 fresh-reachable p t =
-    answered (Refusals.fresh p t) blank (idle p t) blank-reachable (λ e. go (rate_over t) (time_over p) refl refl e)
+    answered (Refusals.fresh p t) blank (idle p t) blank-reachable
+    (λ e. let f = within (rate_over t) (time_over p) e in record { times = f.1; rate = f.0; sound = new-sound most p })
   where
-    go : (x y : Bool) → rate_over t ≡ x → time_over p ≡ y → eqb (cond x 4 (cond y 3 0)) 0 ≡ true → Reachable (idle p t)
-    go true y f g e = absurd (omega (arith, eqb-true 4 0 e))
-    go false true f g e = absurd (omega (arith, eqb-true 3 0 e))
-    go false false f g e = record { times = g; rate = f; sound = new-sound most p }
+    within : (x y : Bool) → eqb (cond x 4 (cond y 3 0)) 0 ≡ true → (x ≡ false) × (y ≡ false)
+    within x y e = (grind arith, grind arith)
 
 frames-reachable : (n : ℕ) (e : Envelope) → Reachable e → Reachable (frames n e)
 frames-reachable zero e r = r

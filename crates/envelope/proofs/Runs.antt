@@ -1,10 +1,10 @@
 -- A run of frames within one segment: its levels and the voice after it are those of frame after frame (`level-within`, `run_ends`), since only u and
 -- left step there; and the levels of frames as a list, by its elements.
-use mathlib.Core.Path.{◌≡◌, refl, sym, ap, ◌∙◌, subst}
+use mathlib.Core.Path.{◌≡◌, refl, sym, ap, ◌∙◌}
 use mathlib.Core.Logic.{◌≢◌}
-use mathlib.Core.Bool.{Bool, true, false, cond}
+use mathlib.Core.Bool.{Bool, true, false}
 use mathlib.Core.List.{List}
-use Prim.Native.Nat.{ℕ, zero, suc, ◌+◌, ◌-◌, ◌≤◌, ◌<◌, min, max}
+use Prim.Native.Nat.{ℕ, zero, suc, ◌≤◌, ◌<◌, max}
 use native.Mathlib.Nat.{not-suc-le-zero, le_of_suc-le-suc}
 use native.Mathlib.Omega.{arith}
 use borrow.Author.Tests.{eqb-true, eqb-false}
@@ -22,25 +22,19 @@ use Rattle.lane.specs.Voices as Voices
 use Rattle.lane.proofs.Frames.{frames-from, frames-untimed, frames-inside, frame-last, frames_end}
 use Rattle.envelope.specs.declared.envelopes.Envelope.{Envelope}
 use Rattle.envelope.specs.Envelopes.{frame, frames, levels}
-use Rattle.filled.specs.Filled.{Filled}
 use Rattle.envelope.specs.Parts.{level_after}
 
 -- A run has a frame if there is one to draw, and no more than there are.
 pub run-some : (left most : ℕ) → 1 ≤ most → 1 ≤ run_length left most
 unfolding run_length
-run-some left most h = go (eqb left untimed)
-  where
-    go : (x : Bool) → 1 ≤ cond x most (min most (max 1 left))
-    go true = h
-    go false = omega arith
+run-some left most h = grind arith
 
 pub run_few : (left most : ℕ) → run_length left most ≤ most
 unfolding run_length
-run_few left most = go (eqb left untimed)
-  where
-    go : (x : Bool) → cond x most (min most (max 1 left)) ≤ most
-    go true = omega arith
-    go false = omega arith
+run_few left most = grind arith
+
+-- For the blocks of `after_process`: a run lies in what is left to draw, and has a frame.
+pub ruleset run_bounds = (run-some, run_few)
 
 -- A frame of the envelope is one of its voice.
 pub frames-voice : (n : ℕ) (e : Envelope) → frames n e ≡ record { voice = Voices.frames n e.timing e.voice; timing = e.timing }
@@ -80,21 +74,12 @@ get_d_levels zero j e h = absurd (not-suc-le-zero h)
 get_d_levels (suc n) zero e h = refl
 get_d_levels (suc n) (suc j) e h = get_d_levels n j (frame e) (le_of_suc-le-suc h)
 
--- A list that is filled with the levels is their list.
-pub all_levels : (e : Envelope) (l₀ l : List Float) → Filled nan (level_at e.timing e.voice) 0 (length l₀) l₀ l → l ≡ levels (length l₀) e
-all_levels e l₀ l F =
-    ext_get_or nan l (levels (length l₀) e) (F.same ∙ sym (length-levels (length l₀) e))
-    (λ j h.
-    let k = subst (λ (n : ℕ). j < n) F.same h in
-    F.inside j (omega arith) k ∙ sym (get_d_levels (length l₀) j e k))
-
--- A run that begins `done` frames on draws the levels of the frames from there.
-pub run-levels : (t : Timing) (v₀ v : Voice) (done m j : ℕ) → v ≡ Voices.frames done t v₀ → Inside m v.seg.left → done ≤ j → j < done + m
-    → level_after v.seg (j - done) ≡ level_at t v₀ j
-run-levels t v₀ v done m j e w p q =
-    level-within t v m (j - done) w (omega arith)
-    ∙ ap (λ (y : Voice). level_at t y (j - done)) e
-    ∙ ap (λ (y : Voice). Segments.level y.seg) (sym (frames-from t done j v₀ p))
+-- A list that has a run's levels, one by one, is the list of them.
+pub run-levels : (e : Envelope) (m : ℕ) (l : List Float) → Inside m e.voice.seg.left → length l ≡ m
+    → ((k : ℕ) → k < length l → get_or l k nan ≡ level_after e.voice.seg k) → l ≡ levels m e
+run-levels e m l w s h =
+    ext_get_or nan l (levels m e) (s ∙ sym (length-levels m e))
+    (λ k p. h k p ∙ level-within e.timing e.voice m k w (omega arith) ∙ sym (get_d_levels m k e (omega arith)))
 
 -- As many frames as are left, and no more.
 pub run_ends : (t : Timing) (v : Voice) (m : ℕ) → v.seg.left < untimed → 1 ≤ m → m ≤ max 1 v.seg.left → v.seg.left ≤ m
@@ -108,3 +93,6 @@ run_ends t v m b p h k = go v.seg.left refl
     go (suc l) e =
         let all : m ≡ v.seg.left = omega arith in
         ap (λ (n : ℕ). Voices.frames n t v) all ∙ frames_end t v (omega arith) b
+
+-- For `passed`: untimed, or with samples left, only u and left step; a run that reaches the end is followed by `advance`.
+pub ruleset after_run = (frames-untimed, frames-inside, run_ends)

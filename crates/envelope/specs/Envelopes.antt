@@ -1,5 +1,5 @@
 -- The single envelope by value: each call's answer, and the levels that frames hand out.
-use Rattle.std.specs.Prelude.{ℕ, zero, suc, Bool, cond, List, [], ◌∷◌, eqb, Float}
+use Rattle.std.specs.Prelude.{ℕ, zero, suc, Bool, cond, List, [], ◌∷◌, eqb, Float, Result, Ok, Err}
 use Rattle.numbers.specs.Constants as Constants
 use Rattle.timing.specs.declared.Timing.{Timing}
 use Rattle.timing.specs.Clock as Clock
@@ -7,6 +7,7 @@ use Rattle.curve.specs.Segments as Segments
 use Rattle.settings.specs.declared.settings.EnvelopeParams.{EnvelopeParams}
 use Rattle.settings.specs.declared.settings.Trigger.{Trigger}
 use Rattle.settings.specs.declared.stages.Stage.{Stage}
+use Rattle.settings.specs.declared.refusals.Refusal.{Refusal}
 use Rattle.settings.specs.Settings.{amp}
 use Rattle.settings.specs.Stages as Stages
 use Rattle.lane.specs.Planning as Planning
@@ -14,8 +15,17 @@ use Rattle.settings.specs.Refusals as Refusals
 use Rattle.lane.specs.Readings as Readings
 use Rattle.lane.specs.Voices as Voices
 use Rattle.envelope.specs.declared.envelopes.Envelope.{Envelope}
-use Rattle.envelope.specs.declared.envelopes.Answer.{Answer}
 use Rattle.envelope.specs.declared.envelopes.Frame.{Frame}
+
+-- A refusal's number, 0 if the call was accepted, and the envelope after it.
+pub record Answer : Type 0 where
+  pub refusal : ℕ
+  pub envelope : Envelope
+
+-- What a Result says as an answer, beside whose refusal stands the envelope `refused`.
+abbrev pub answered : Envelope → Result Envelope Refusal → Answer
+answered refused (Ok e) = record { refusal = 0; envelope = e }
+answered refused (Err r) = record { refusal = Refusals.number r; envelope = refused }
 
 -- The idle envelope of these settings and timing.
 abbrev pub idle : EnvelopeParams → Timing → Envelope

@@ -1,35 +1,31 @@
 // Frames: the next level, and a block of levels drawn run by run, a run lying within one segment.
-ghost use Rattle.std.specs.Prelude.{◌≡◌, ◌+◌, ◌-◌, ◌≤◌, length};
+ghost use Rattle.std.specs.Prelude.{◌≡◌, ◌≤◌, length, get_or, EachIndex};
 ghost use Rattle.std.specs.Float.{nan};
 ghost use Rattle.curve.specs.Segments as Segments;
 ghost use Rattle.lane.specs.Voices as Voices;
 ghost use Rattle.envelope.specs.Envelopes as Envelopes;
 ghost use Rattle.envelope.specs.Parts as Parts;
-ghost use Rattle.filled.specs.Filled.{Filled};
 
 use crate::envelopes::{Envelope, Frame};
 use curve::{Segment, UNTIMED};
 use lane::Voice;
 use timing::Timing;
 
-// Writes the next `run` levels of a segment from out[from] on, and answers the u after them.
-fn draw(out: &mut [f32], from: usize, run: usize, seg: Segment) -> f32
-    requires { from + run ≤ length out.old }
-    ensures levels { Filled nan (λ j. Parts.level_after seg (j - from)) from (from + run) out.old out.new }
-    ensures moved { result ≡ Segments.u_after run seg.u seg.r seg.d }
+// Writes a segment's next levels, and answers the u after them.
+fn draw(out: &mut [f32], seg: Segment) -> f32
+    ensures levels { EachIndex out.new (λ k. get_or out.new k nan ≡ Parts.level_after seg k) }
+    ensures moved { result ≡ Segments.u_after (length out.old) seg.u seg.r seg.d }
 {
     let mut u = seg.u;
-    let mut at = from;
-    let end = from + run;
-    while at < end {
-        out[at] = u * seg.scale + seg.base;
+    for level in out {
+        *level = u * seg.scale + seg.base;
         u = u * seg.r + seg.d;
-        at += 1;
     }
     u
 }
 
 // The voice after `run` frames within its segment, the last of which left u.
+#[tactic(auto, using(crate::proofs::Runs::after_run))]
 fn passed(voice: Voice, timing: Timing, run: usize, u: f32) -> Voice
     requires some { 1 ≤ run }
     requires inside { Segments.Inside run voice.seg.left }
@@ -43,8 +39,7 @@ fn passed(voice: Voice, timing: Timing, run: usize, u: f32) -> Voice
         return next;
     }
     if run < left as usize {
-        let rest = left - (run as u32);
-        next.seg.left = rest;
+        next.seg.left = left - run as u32;
         return next;
     }
     voice.lane.advance(timing)
@@ -55,33 +50,30 @@ impl Envelope {
     pub fn after_frame(self) -> Frame
         ensures { result ≡ Envelopes.next_level self }
     {
-        let timing = self.timing;
         Frame {
             level: self.voice.seg.level(),
-            envelope: Envelope {
-                voice: self.voice.frame(timing),
-                timing: timing,
+            envelope: Self {
+                voice: self.voice.frame(self.timing),
+                ..self
             },
         }
     }
 
     // Writes its next out.len() levels.
-    pub fn after_process(self, out: &mut [f32]) -> Envelope
+    #[tactic(auto, using(crate::proofs::Runs::run_bounds))]
+    pub fn after_process(self, out: &mut [f32]) -> Self
         ensures written { out.new ≡ Envelopes.levels (length out.old) self }
         ensures after { result ≡ Envelopes.frames (length out.old) self }
     {
-        let timing = self.timing;
         let mut voice = self.voice;
+        // `done` is counted by hand: a rest that split_at_mut hands on loses its tie to `out` in the proof.
         let mut done = 0;
         while done < out.len() {
             let run = curve::run_length(voice.seg.left, out.len() - done);
-            let u = draw(out, done, run, voice.seg);
-            voice = passed(voice, timing, run, u);
+            let u = draw(&mut out[done..done + run], voice.seg);
+            voice = passed(voice, self.timing, run, u);
             done += run;
         }
-        Envelope {
-            voice: voice,
-            timing: timing,
-        }
+        Self { voice, ..self }
     }
 }

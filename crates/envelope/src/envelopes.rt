@@ -3,7 +3,7 @@ ghost use Rattle.std.specs.Prelude.{◌≡◌};
 ghost use Rattle.envelope.specs.Envelopes as Envelopes;
 
 use lane::{Lane, Voice};
-use settings::{EnvelopeParams, Stage, Trigger};
+use settings::{EnvelopeParams, Refusal, Stage, Trigger};
 use timing::Timing;
 
 // A voice, and the timing that its counts are made with.
@@ -11,13 +11,6 @@ use timing::Timing;
 pub struct Envelope {
     pub voice: Voice,
     pub timing: Timing,
-}
-
-// A refusal's number, 0 if the call was accepted, and the envelope after it.
-#[derive(Clone, Copy)]
-pub struct Answer {
-    pub refusal: u32,
-    pub envelope: Envelope,
 }
 
 // One level, and the envelope after it.
@@ -28,101 +21,77 @@ pub struct Frame {
 }
 
 impl Envelope {
-    // An envelope before its first note. Refused: 4 a sample rate over its limit, 3 a time over its
-    // limit; beside the number comes the idle envelope of AMP and Timing::new(0.0).
-    pub fn fresh(params: EnvelopeParams, timing: Timing) -> Answer
-        ensures { result ≡ Envelopes.fresh params timing }
+    // An envelope before its first note. Refused: a sample rate over its limit, then a time over its
+    // limit.
+    pub fn fresh(params: EnvelopeParams, timing: Timing) -> Result<Self, Refusal>
+        ensures { Envelopes.answered Envelopes.blank result ≡ Envelopes.fresh params timing }
     {
-        let refusal = settings::number_of(settings::check_fresh(params, timing));
-        if refusal != 0 {
-            return Answer {
-                refusal: refusal,
-                envelope: Envelope {
-                    voice: Lane::new(EnvelopeParams::AMP),
-                    timing: Timing::new(0.0),
-                },
-            };
-        }
-        Answer {
-            refusal: 0,
-            envelope: Envelope {
-                voice: Lane::new(params),
-                timing: timing,
-            },
+        settings::check_fresh(params, timing)?;
+        Ok(Self {
+            voice: Lane::new(params),
+            timing,
+        })
+    }
+
+    // The idle envelope of AMP and Timing::new(0.0), for a caller to take in a refused one's place.
+    pub fn blank() -> Self
+        ensures { result ≡ Envelopes.blank }
+    {
+        Self {
+            voice: Lane::new(EnvelopeParams::AMP),
+            timing: Timing::new(0.0),
         }
     }
 
-    // Other settings, which the next frame already has. Refused: 3 a time over its limit.
-    pub fn with_params(self, params: EnvelopeParams) -> Answer
-        ensures { result ≡ Envelopes.set_params params self }
+    // Other settings, which the next frame already has. Refused: a time over its limit.
+    pub fn with_params(self, params: EnvelopeParams) -> Result<Self, Refusal>
+        ensures { Envelopes.answered self result ≡ Envelopes.set_params params self }
     {
-        let refusal = settings::number_of(settings::check_params(params));
-        if refusal != 0 {
-            return Answer {
-                refusal: refusal,
-                envelope: self,
-            };
-        }
-        let timing = self.timing;
-        Answer {
-            refusal: 0,
-            envelope: Envelope {
-                voice: self.voice.set_params(timing, params),
-                timing: timing,
-            },
-        }
+        settings::check_params(params)?;
+        Ok(Self {
+            voice: self.voice.set_params(self.timing, params),
+            ..self
+        })
     }
 
-    // Another timing, likewise. Refused: 4 a sample rate over its limit.
-    pub fn with_timing(self, timing: Timing) -> Answer
-        ensures { result ≡ Envelopes.set_timing timing self }
+    // Another timing, likewise. Refused: a sample rate over its limit.
+    pub fn with_timing(self, timing: Timing) -> Result<Self, Refusal>
+        ensures { Envelopes.answered self result ≡ Envelopes.set_timing timing self }
     {
-        let refusal = settings::number_of(settings::check_timing(timing));
-        if refusal != 0 {
-            return Answer {
-                refusal: refusal,
-                envelope: self,
-            };
-        }
-        Answer {
-            refusal: 0,
-            envelope: Envelope {
-                voice: self.voice.replan(timing),
-                timing: timing,
-            },
-        }
+        settings::check_timing(timing)?;
+        Ok(Self {
+            voice: self.voice.replan(timing),
+            timing,
+        })
     }
 
     // A note, by its kind of trigger.
-    pub fn after_trigger(self, trigger: Trigger) -> Envelope
+    pub fn after_trigger(self, trigger: Trigger) -> Self
         ensures { result ≡ Envelopes.trigger trigger self }
     {
-        let timing = self.timing;
-        Envelope {
-            voice: self.voice.trigger(timing, trigger),
-            timing: timing,
+        Self {
+            voice: self.voice.trigger(self.timing, trigger),
+            ..self
         }
     }
 
     // The note's end.
-    pub fn after_release(self) -> Envelope
+    pub fn after_release(self) -> Self
         ensures { result ≡ Envelopes.release self }
     {
-        let timing = self.timing;
-        Envelope {
-            voice: self.voice.release(timing),
-            timing: timing,
+        Self {
+            voice: self.voice.release(self.timing),
+            ..self
         }
     }
 
     // Idle, with no release before it.
-    pub fn after_reset(self) -> Envelope
+    pub fn after_reset(self) -> Self
         ensures { result ≡ Envelopes.reset self }
     {
-        let timing = self.timing;
-        Envelope {
-            voice: self.voice.reset(timing),
-            timing: timing,
+        Self {
+            voice: self.voice.reset(self.timing),
+            ..self
         }
     }
 
@@ -137,9 +106,7 @@ impl Envelope {
     pub fn stage_now(self) -> Stage
         ensures { result ≡ Envelopes.stage self }
     {
-        let voice = self.voice;
-        let lane = voice.lane;
-        lane.stage
+        self.voice.lane.stage
     }
 
     // What its next frame would hand out.
@@ -153,10 +120,7 @@ impl Envelope {
     pub fn is_idle_now(self) -> bool
         ensures { result ≡ Envelopes.is_idle self }
     {
-        let voice = self.voice;
-        let lane = voice.lane;
-        let stage = lane.stage;
-        stage.is_idle()
+        self.stage_now().is_idle()
     }
 
     // 0 when idle, else the release's count of samples.

@@ -2,10 +2,11 @@
 // the readings that document 01 adds. Each takes the envelope from behind the reference, makes the
 // call by value, which says what it does, and puts the envelope after it back.
 ghost use Rattle.std.specs.Prelude.{◌≡◌, length};
+ghost use Rattle.settings.specs.Refusals as Refusals;
 ghost use Rattle.envelope.specs.Envelopes as Envelopes;
 
 use crate::envelopes::Envelope;
-use settings::{EnvelopeParams, Stage, Trigger};
+use settings::{EnvelopeParams, Refusal, Stage, Trigger};
 use timing::Timing;
 
 impl Envelope {
@@ -15,24 +16,22 @@ impl Envelope {
         self.params_now()
     }
 
-    // Answers 0, or the number that refuses these settings: 3 a time over its limit.
-    pub fn set_params(&mut self, params: EnvelopeParams) -> u32
-        ensures answer { result ≡ (Envelopes.set_params params self.old).refusal }
+    // Refused, nothing changes: a time over its limit.
+    pub fn set_params(&mut self, params: EnvelopeParams) -> Result<(), Refusal>
+        ensures answer { Refusals.number_of result ≡ (Envelopes.set_params params self.old).refusal }
         ensures after { self.new ≡ (Envelopes.set_params params self.old).envelope }
     {
-        let answer = self.with_params(params);
-        *self = answer.envelope;
-        answer.refusal
+        *self = self.with_params(params)?;
+        Ok(())
     }
 
-    // Answers 0, or the number that refuses this timing: 4 a sample rate over its limit.
-    pub fn set_timing(&mut self, timing: Timing) -> u32
-        ensures answer { result ≡ (Envelopes.set_timing timing self.old).refusal }
+    // Refused, nothing changes: a sample rate over its limit.
+    pub fn set_timing(&mut self, timing: Timing) -> Result<(), Refusal>
+        ensures answer { Refusals.number_of result ≡ (Envelopes.set_timing timing self.old).refusal }
         ensures after { self.new ≡ (Envelopes.set_timing timing self.old).envelope }
     {
-        let answer = self.with_timing(timing);
-        *self = answer.envelope;
-        answer.refusal
+        *self = self.with_timing(timing)?;
+        Ok(())
     }
 
     pub fn trigger(&mut self, trigger: Trigger)

@@ -8,5 +8,5 @@ mod envelopes;
 mod in_place;
 
 pub use curve::MAX_BEND;
-pub use envelopes::{Answer, Envelope, Frame};
+pub use envelopes::{Envelope, Frame};
 pub use timing::{MAX_TIME_SCALE, MIN_TIME_SCALE};

@@ -1,20 +1,11 @@
-use mathlib.Core.Path.{◌≡◌}
-use Prim.Native.Nat.{◌-◌, ◌≤◌}
-use lib.Ieee.{nan}
-use lib.ListN.{length}
+-- `draw`: the levels up to the index are written, and u has stepped as often.
+use Rattle.std.proofs.Common.{◌≡◌, ℕ, ◌<◌, get_or}
+use Rattle.std.specs.Float.{nan}
 use Rattle.curve.specs.Segments.{u_after}
-use Rattle.filled.specs.Filled.{Filled}
 use Rattle.envelope.specs.Parts.{level_after}
 use Rattle.envelope.proofs.drawing.draw.Given as goal
 
--- The levels from `from` to `at` are written, and u has stepped as often.
-abbrev pub invariant-loop-at : goal.invariant-loop-at
-invariant-loop-at l =
-    (l.from ≤ l.at)
-    × (l.at ≤ l.end)
-    × (length l.out ≡ length l.initial.out)
-    × Filled nan (λ j. level_after l.seg (j - l.from)) l.from l.at l.initial.out l.out
-    × (l.u ≡ u_after (l.at - l.from) l.seg.u l.seg.r l.seg.d)
-
-abbrev pub decreases-loop-at : goal.decreases-loop-at
-decreases-loop-at l = l.end - l.at
+abbrev pub invariant-loop-level : goal.invariant-loop-level
+invariant-loop-level l =
+    ((k : ℕ) → k < l.level-index → get_or l.level-items k nan ≡ level_after l.seg k)
+    × (l.u ≡ u_after l.level-index l.seg.u l.seg.r l.seg.d)
