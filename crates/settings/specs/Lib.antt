@@ -1,4 +1,5 @@
--- Document 01, 'One voice' and "No's, by call": mod.rs's settings and stages, and their limits.
+-- Document 01, 'One voice' and "No's, by call": mod.rs's settings and stages, their codes and their limits.
 pub mod Settings
+pub mod Codes
 pub mod Refusals
 pub mod Stages

@@ -1,9 +1,10 @@
 // What is refused, and by which number: document 01, "No's, by call".
 ghost use Rattle.std.specs.Prelude.{◌≡◌};
+ghost use Rattle.settings.specs.declared.refusals.Refusal.{Refusal};
 ghost use Rattle.settings.specs.Refusals as Refusals;
 
 use crate::settings::EnvelopeParams;
-use timing::Timing;
+use timing::{Timing, UnnamedCode};
 
 // Why a call is refused; each has its number.
 #[derive(Clone, Copy)]
@@ -34,6 +35,14 @@ impl Refusal {
         ensures { result ≡ Refusals.number self }
     {
         self as u32
+    }
+}
+
+impl From<UnnamedCode> for Refusal {
+    ghost from_gives = { λ _ r. r ≡ Refusal.UnnamedCode };
+
+    fn from(_code: UnnamedCode) -> Self {
+        Refusal::UnnamedCode
     }
 }
 

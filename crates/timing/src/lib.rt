@@ -3,6 +3,7 @@
 
 ghost use Rattle.std.specs.Prelude.{◌≡◌};
 ghost use Rattle.timing.specs.Clock as Clock;
+ghost use Rattle.timing.specs.Codes as Codes;
 ghost use Rattle.timing.specs.Samples as Samples;
 
 // A scale outside MIN_TIME_SCALE..MAX_TIME_SCALE counts as the nearer of the two.
@@ -15,6 +16,24 @@ pub const MAX_TIME_SCALE: f64 = 10.0;
 pub enum TimeUnit {
     Milliseconds,
     Tempo,
+}
+
+// A code that names nothing.
+#[derive(Clone, Copy)]
+pub struct UnnamedCode;
+
+impl TryFrom<u32> for TimeUnit {
+    type Error = UnnamedCode;
+
+    ghost try_from_gives = { λ code r. r ≡ Codes.unit code };
+
+    fn try_from(code: u32) -> Result<Self, UnnamedCode> {
+        match code {
+            0 => Ok(TimeUnit::Milliseconds),
+            1 => Ok(TimeUnit::Tempo),
+            _ => Err(UnnamedCode),
+        }
+    }
 }
 
 // How many samples a second has and how many beats a minute, and a factor for all times.
@@ -31,7 +50,7 @@ impl Timing {
         ensures { result ≡ Clock.new sample_rate }
     {
         Self {
-            sample_rate: sample_rate,
+            sample_rate,
             tempo: 120.0,
             scale: 1.0,
         }
@@ -41,22 +60,14 @@ impl Timing {
     pub fn with_tempo(self, tempo: f64) -> Self
         ensures { result ≡ Clock.with_tempo self tempo }
     {
-        Self {
-            sample_rate: self.sample_rate,
-            tempo: tempo,
-            scale: self.scale,
-        }
+        Self { tempo, ..self }
     }
 
     // This timing with another factor.
     pub fn with_scale(self, scale: f64) -> Self
         ensures { result ≡ Clock.with_scale self scale }
     {
-        Self {
-            sample_rate: self.sample_rate,
-            tempo: self.tempo,
-            scale: scale,
-        }
+        Self { scale, ..self }
     }
 
     // How many samples a time lasts, to the nearest whole number; none if it is negative or NaN.
