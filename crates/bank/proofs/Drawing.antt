@@ -1,7 +1,6 @@
 -- Runs, one after the other, are the frames of the definition, and what they drew are its rows. `Ran`: the arrays after some frames; `Shown`: the
 -- output, in floats or in bytes.
 use mathlib.Core.Path.{◌≡◌, refl, sym, ap, ◌∙◌, subst}
-use mathlib.Core.Bool.{cond}
 use mathlib.Core.List.{List, [], ◌∷◌, ◌++◌}
 use mathlib.Core.Logic.{◌⊎◌, inl, inr}
 use Prim.Native.Nat.{ℕ, zero, suc, ◌+◌, ◌*◌, ◌-◌, ◌<◌, ◌≤◌, min}
@@ -9,11 +8,9 @@ use native.Mathlib.Omega.{arith}
 use native.Mathlib.Nat.{add-mul}
 use borrow.Author.Tests.{lt-ltb, le-ltb}
 use borrow.Rule.Slice.PartMut.{mid_of, put_mid}
-use lib.Dec.{ltb}
 use lib.Ieee.{Float, nan}
 use lib.ListN.{length, get_or, take, length-append, length-drop}
 use lib.Seq.{get_or-drop, length-take-le}
-use Rattle.numbers.specs.Constants as Constants
 use Rattle.timing.specs.declared.Timing.{Timing}
 use Rattle.curve.specs.Segments as Segments
 use Rattle.curve.specs.Segments.{u_after}
@@ -27,36 +24,25 @@ use Rattle.envelope.specs.Parts.{level_after}
 use Rattle.envelope.proofs.Runs.{level_at, level-within}
 use Rattle.memory.specs.Spaced.{place}
 use Rattle.memory.specs.declared.arrays.Arrays.{Arrays}
-use Rattle.memory.specs.Memory.{voices_at, count_of, timing_at, columns_at, floats_at, u_at, r_at, d_at, scale_at, base_at, left_at, bends_at, counts_at, codes_at, voice_of, voice_at, Same}
+use Rattle.memory.specs.Memory.{count_of, timing_at, columns_at, floats_at, u_at, r_at, d_at, scale_at, base_at, left_at, bends_at, counts_at, codes_at, voice_of, voice_at, Same}
 use Rattle.memory.proofs.Storing.{voice-same, same_self, same_trans}
 use Rattle.rows.specs.Strides.{groups_of, stride_of}
 use Rattle.rows.specs.Rows.{moved_at, drawn_at, fitting, Cleared, Drawn}
 use Rattle.rows.specs.Runs.{until_end, Counts}
 use Rattle.rows.proofs.Lent.{part_before, part_at, rest-lent, rest_back}
-use Rattle.rows.proofs.Places.{Told}
+use Rattle.rows.specs.Places.{Told}
 use Rattle.rows.proofs.RowsDrawn.{row_fits, run_fits}
 use Rattle.rows.proofs.SpareLanes.{silent-level, silent-drawn}
 use Rattle.rows.proofs.WithinRuns.{until_end_some, until_end_inside}
 use Rattle.bank.specs.Banks.{bank_of, frames}
-use Rattle.bank.specs.Lent.{KeptFrom, Silenced, Processed}
+use Rattle.bank.specs.Lent.{Silenced, Processed}
+use Rattle.bank.specs.Frames.{Ran, with_floats, lane_at, Shown, Going}
 use Rattle.bank.specs.Parts.{passed, Spread}
 use Rattle.bank.proofs.Frames.{frames-size, frames-timing, voice-frames}
 use Rattle.bank.proofs.Held.{size_of, voice_of_lem, timing_of_lem, held}
 use Rattle.bank.proofs.Runs.{run-whole, left_of}
 
 -- ---- the arrays
-
--- After `done` frames of the first n voices.
-pub record Ran (n : ℕ) (t : Timing) (m₀ : Arrays) (done : ℕ) (m : Arrays) : Type 0 where
-  pub voice : (v : ℕ) → v < n → voice_at m v ≡ Voices.frames done t (voice_at m₀ v)
-  pub spare : (w : ℕ) → n ≤ w → w < stride_of n → Silenced w m₀ m
-  pub beside : KeptFrom (stride_of n) m₀ m
-  pub voices : voices_at m.codes ≡ voices_at m₀.codes
-  pub timing : timing_at m.bends ≡ timing_at m₀.bends
-
--- Other floats in the same arrays.
-abbrev pub with_floats : List Float → Arrays → Arrays
-with_floats f m = record { bends = m.bends; counts = m.counts; floats = f; codes = m.codes }
 
 -- Those of a voice's record are kept where every number past the columns is.
 records_kept : (f f' : List Float) → ((i : ℕ) → 340 ≤ i → get_or f' i nan ≡ get_or f i nan) → (w : ℕ) → floats_at f' w ≡ floats_at f w
@@ -226,10 +212,6 @@ ran-bank n t m₀ done m e q R =
 
 -- ---- the output
 
--- Lane i of row k.
-abbrev pub lane_at : ℕ → Timing → Arrays → ℕ → ℕ → Float
-lane_at n t m₀ k i = cond (ltb i n) (level_at t (voice_at m₀ i) k) Constants.zero
-
 drawn-is : (m : Arrays) (k i : ℕ) → drawn_at k m.floats i ≡ level_after (voice_at m i).seg k
 unfolding voice_at
 drawn-is m k i = refl
@@ -247,18 +229,6 @@ lane-drawn n t m₀ done m R C run within k i h l = go (split i n)
         (drawn-is m k i ∙ level-within t x run k inside h ∙ ap (λ (x : Voice). level_at t x k) (R.voice i p)
         ∙ ap (λ (v : Voice). Segments.level v.seg) (sym (frames-add t done k (voice_at m₀ i))))
     go (inr p) = rw (le-ltb i n p) (silent-level m.floats i (R.spare i p l).columns k)
-
-module _ {A : Type 0} (z : A) (wide : ℕ) (cell : (ℕ → Float) → ℕ → A) where
-  -- The first `done` rows hold the levels y, and what is past them is kept.
-  pub record Shown (groups : ℕ) (y : ℕ → ℕ → Float) (done : ℕ) (o₀ o : List A) : Type 0 where
-    pub levels : (k c : ℕ) → k < done → c < wide * groups → get_or o (k * (wide * groups) + c) z ≡ cell (y k) c
-    pub past : (j : ℕ) → done * (wide * groups) ≤ j → get_or o j z ≡ get_or o₀ j z
-    pub long : length o ≡ length o₀
-
-  -- `done` frames of n voices have passed, and been shown.
-  pub record Going (n : ℕ) (m₀ : Arrays) (o₀ : List A) (done : ℕ) (m : Arrays) (o : List A) : Type 0 where
-    pub ran : Ran n (timing_at m₀.bends) m₀ done m
-    pub shown : Shown (groups_of n) (lane_at n (timing_at m₀.bends) m₀) done o₀ o
 
 module _ {A : Type 0} (z : A) (wide : ℕ) (cell : (ℕ → Float) → ℕ → A) (told : Told wide cell) (groups : ℕ) (y : ℕ → ℕ → Float) where
   shown-none : (o : List A) → Shown z wide cell groups y 0 o o
@@ -330,10 +300,6 @@ module _ {A : Type 0} (z : A) (wide : ℕ) (cell : (ℕ → Float) → ℕ → A
         ran = ran-none n few m₀ f' (cleared_few n few m₀.floats f' C) t;
         shown = shown-none z wide cell told (groups_of n) (lane_at n t (with_floats f' m₀)) o₀;
       }
-
-  -- The same number of frames, said otherwise.
-  pub going_as : (i j : ℕ) (m : Arrays) (o : List A) → i ≡ j → Going z wide cell n m₀ o₀ i m o → Going z wide cell n m₀ o₀ j m o
-  going_as i j m o e G = subst (λ (k : ℕ). Going z wide cell n m₀ o₀ k m o) e G
 
   -- A run more, of those that there is room for.
   pub going_more : (frames done end run from : ℕ) (m m₂ : Arrays) (o p' : List A) (f' : List Float) → Going z wide cell n m₀ o₀ done m o → done < frames

@@ -3,7 +3,7 @@ use mathlib.Core.Path.{◌≡◌, refl, sym, ap, ◌∙◌, subst}
 use mathlib.Core.Bool.{cond}
 use mathlib.Core.List.{List, ◌++◌}
 use mathlib.Core.Logic.{◌⊎◌, inl, inr, ◌≢◌}
-use Prim.Native.Nat.{ℕ, ◌+◌, ◌*◌, ◌-◌, ◌/◌, ◌%◌, ◌<◌, ◌≤◌, min}
+use Prim.Native.Nat.{ℕ, ◌+◌, ◌*◌, ◌-◌, ◌/◌, ◌%◌, ◌<◌, ◌≤◌}
 use native.Mathlib.Omega.{arith}
 use native.Mathlib.Nat.{div-add-mod', mod-lt, div-lt_iff_lt-mul}
 use borrow.Author.Tests.{lt-ltb, le-ltb, eq-eqb, ne_eqb}
@@ -21,16 +21,17 @@ use Rattle.memory.specs.declared.arrays.Arrays.{Arrays}
 use Rattle.memory.specs.Memory.{count_of, timing_at, voice_at}
 use Rattle.memory.proofs.Storing.{same_self}
 use Rattle.rows.specs.Strides.{groups_of, stride_of}
-use Rattle.rows.specs.Rows.{float_cell, byte_cell, Cleared}
-use Rattle.rows.proofs.Places.{byte-told}
+use Rattle.rows.specs.Rows.{float_cell, byte_cell}
+use Rattle.rows.specs.Places.{byte-told}
 use Rattle.rows.proofs.RowsDrawn.{row_fits}
 use Rattle.bank.specs.Calls.{Call, refusal}
 use Rattle.bank.specs.Banks.{Bank, bank_of, size, voice, frames, rows, moved, answer, written, bytes, bytes_refusal, written_bytes, after_bytes}
 use Rattle.bank.specs.Lent.{Processed}
+use Rattle.bank.specs.Frames.{with_floats, Ran, lane_at, Shown, Played}
 use Rattle.bank.proofs.Frames.{voice-frames, length-rows, rows_at}
 use Rattle.bank.proofs.Bytes.{length-bytes, bytes-at}
 use Rattle.bank.proofs.Held.{size_of, voice_of_lem, timing_of_lem}
-use Rattle.bank.proofs.Drawing.{with_floats, cleared_few, cleared_bank, cleared_processed, Ran, ran-bank, lane_at, Shown, Going}
+use Rattle.bank.proofs.Drawing.{cleared_few, cleared_bank, cleared_processed, ran-bank}
 
 -- A bank of n voices, and the N frames that were shown.
 module _ (m₀ : Arrays) (n N : ℕ) (n-is : n ≡ count_of m₀.codes) where
@@ -160,10 +161,12 @@ module _ (m₀ : Arrays) (o₀ : List Float) (n stride : ℕ) (n-is : n ≡ coun
       rw (ne_eqb (length o₀ % s) 0 e) (refl, (refl, (refl, kept_whole 5 m₀ (λ z. absurd (omega arith)))))
 
   -- The spare lanes were cleared, then all frames passed.
-  pub process-done : (f' : List Float) (m : Arrays) (o : List Float) → Cleared (min n 64) (stride_of (min n 64)) m₀.floats f' → length o₀ % stride ≡ 0
-      → Going nan 16 float_cell n (with_floats f' m₀) o₀ (length o₀ / stride) m o → Answers 0 m₀ m o₀ o
+  pub process-done : (m : Arrays) (o : List Float) → length o₀ % stride ≡ 0 → Played nan 16 float_cell n (length o₀ / stride) m₀ o₀ m o → Answers 0 m₀ m o₀ o
   unfolding answer refusal written moved
-  process-done f' m o C z G =
+  process-done m o z P =
+      let f' = P.floats in
+      let C = P.cleared in
+      let G = P.going in
       let few : n ≤ 64 = omega (arith, n-is) in
       let D = cleared_few n few m₀.floats f' C in
       let e : length o₀ % s ≡ 0 = ap (λ (k : ℕ). length o₀ % k) (sym same) ∙ z in
@@ -205,10 +208,12 @@ module _ (m₀ : Arrays) (o₀ : List ℕ) (n N : ℕ) (n-is : n ≡ count_of m�
       less : length o₀ < N * (64 * groups_of n)
       less = (div-lt_iff_lt-mul pos).0 h
 
-  pub bytes-done : (f' : List Float) (m : Arrays) (o : List ℕ) → Cleared (min n 64) (stride_of (min n 64)) m₀.floats f' → N * (64 * groups_of n) ≤ length o₀
-      → Going 0 64 byte_cell n (with_floats f' m₀) o₀ N m o → AnswersBytes 0 m₀ m N o₀ o
+  pub bytes-done : (m : Arrays) (o : List ℕ) → N * (64 * groups_of n) ≤ length o₀ → Played 0 64 byte_cell n N m₀ o₀ m o → AnswersBytes 0 m₀ m N o₀ o
   unfolding bytes_refusal after_bytes written_bytes
-  bytes-done f' m o C l G =
+  bytes-done m o l P =
+      let f' = P.floats in
+      let C = P.cleared in
+      let G = P.going in
       let few : n ≤ 64 = omega (arith, n-is) in
       let D = cleared_few n few m₀.floats f' C in
       let k : 4 * (N * stride_of n) ≡ N * (64 * groups_of n) = omega arith in

@@ -4,3 +4,4 @@ pub mod Banks
 pub mod Replies
 pub mod Lent
 pub mod Parts
+pub mod Frames

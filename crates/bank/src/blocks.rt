@@ -1,17 +1,20 @@
 // Frames: rows of levels, drawn run by run. A run ends with the first segment that ends.
-ghost use Rattle.std.specs.Prelude.{◌≡◌, ◌≤◌, ◌<◌, min, length};
+ghost use Rattle.std.specs.Prelude.{◌≡◌, ◌*◌, ◌≤◌, ◌<◌, min, length};
 ghost use Rattle.settings.specs.Refusals as Refusals;
 ghost use Rattle.memory.specs.Memory as Memory;
 ghost use Rattle.rows.specs.Runs as Runs;
+ghost use Rattle.rows.specs.Strides as Strides;
 ghost use Rattle.bank.specs.Banks as Banks;
 ghost use Rattle.bank.specs.Calls.{Call};
 ghost use Rattle.bank.specs.Lent as Lent;
+ghost use Rattle.bank.specs.Frames as Frames;
 ghost use Rattle.bank.specs.Parts as Parts;
 
 use crate::banks::Bank;
 use crate::changes::{Change, change_voice};
 use curve::UNTIMED;
 use memory::Arrays;
+use rows::Place;
 use settings::Refusal;
 
 // Each voice whose segment has ended has what follows it.
@@ -52,6 +55,30 @@ fn shorter(frames: usize, end: u32) -> u32
     end
 }
 
+// Draws so many frames of the voices from the output's first place on, run by run; first the lanes of
+// the last group that are no voices are silenced.
+fn draw_frames<P: Place<N>, const N: usize>(
+    m: &mut Arrays,
+    voices: usize,
+    frames: usize,
+    out: &mut [P],
+)
+    requires few { voices ≤ Memory.max_voices }
+    requires room { frames * (N * Strides.groups_of voices) ≤ length out.old }
+    ensures { Frames.Played P.blank N P.cell voices frames m.old out.old m.new out.new }
+{
+    let row = N * rows::groups(voices);
+    rows::clear_spare(&mut m.floats, voices);
+    let mut done = 0;
+    while done < frames {
+        let end = rows::until_end(&m.codes, voices);
+        let run = shorter(frames - done, end);
+        rows::draw(&mut out[done * row..], &mut m.floats, voices, run);
+        pass(m, voices, end, run);
+        done += run as usize;
+    }
+}
+
 impl Bank {
     // As many frames as fill the output, one after the other: a level for each voice, then +0 up to the
     // stride. Refused: 5 an output that is not whole frames, and nothing is written.
@@ -61,23 +88,12 @@ impl Bank {
         ensures levels { out.new ≡ Banks.written (Banks.bank_of self.old.arrays) out.old }
         ensures kept { Lent.Processed (Refusals.number_of result) self.old.arrays self.new.arrays }
     {
-        let m = &mut self.arrays;
-        let voices = m.voices();
+        let voices = self.arrays.voices();
         let stride = 16 * rows::groups(voices);
         if out.len() % stride != 0 {
             return Err(Refusal::NotWholeFrames);
         }
-        let frames = out.len() / stride;
-        rows::clear_spare(&mut m.floats, voices);
-        let mut done = 0;
-        while done < frames {
-            let end = rows::until_end(&m.codes, voices);
-            let run = shorter(frames - done, end);
-            let from = done * stride;
-            rows::draw(&mut out[from..], &mut m.floats, voices, run);
-            pass(m, voices, end, run);
-            done += run as usize;
-        }
+        draw_frames(&mut self.arrays, voices, out.len() / stride, out);
         Ok(())
     }
 
@@ -89,23 +105,12 @@ impl Bank {
         ensures levels { out.new ≡ Banks.written_bytes (Banks.bank_of self.old.arrays) frames out.old }
         ensures kept { Lent.Processed (Refusals.number_of result) self.old.arrays self.new.arrays }
     {
-        let m = &mut self.arrays;
-        let voices = m.voices();
+        let voices = self.arrays.voices();
         let row = 64 * rows::groups(voices);
         if out.len() / row < frames as usize {
             return Err(Refusal::OutputTooShort);
         }
-        rows::clear_spare(&mut m.floats, voices);
-        let mut to = 0;
-        let mut rest = frames;
-        while rest > 0 {
-            let end = rows::until_end(&m.codes, voices);
-            let run = shorter(rest as usize, end);
-            rows::draw_bytes(&mut out[to..], &mut m.floats, voices, run);
-            pass(m, voices, end, run);
-            to += run as usize * row;
-            rest -= run;
-        }
+        draw_frames(&mut self.arrays, voices, frames as usize, out);
         Ok(())
     }
 }

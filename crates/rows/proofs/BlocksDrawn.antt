@@ -16,9 +16,9 @@ use Rattle.filled.specs.Filled.{Filled}
 use Rattle.filled.proofs.Filling.{split}
 use Rattle.memory.specs.Memory.{u_at, r_at, d_at}
 use Rattle.rows.specs.Rows.{moved_at, drawn_at, fitting, Drawn}
+use Rattle.rows.specs.Places.{Told}
 use Rattle.rows.proofs.Lent.{part_before, part_at, rest-lent, rest_back}
 use Rattle.rows.proofs.RowsDrawn.{row_fits}
-use Rattle.rows.proofs.Places.{Told}
 
 -- A block of up to four groups has a row.
 pub block-rows : (groups : ℕ) → 1 ≤ groups → groups ≤ 4 → 1 ≤ 64 / groups

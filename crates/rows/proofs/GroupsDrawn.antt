@@ -9,8 +9,13 @@ use lib.ListN.{length, get_or}
 use Rattle.filled.specs.Filled.{Filled}
 use Rattle.filled.proofs.Filling.{split, filled_none, filled_on}
 use Rattle.rows.specs.Rows.{moved_at, drawn_at, Still, Laid, GroupDrawn, Drawn}
+use Rattle.rows.specs.Places.{Told, Shifts}
 use Rattle.rows.proofs.LanesMoved.{Moved, put_back, still_filled}
-use Rattle.rows.proofs.Places.{Told, Shifts, told-one}
+
+-- The places of one group are told by its levels.
+pub told-one : {A : Type 0} (wide : ℕ) (cell : (ℕ → Float) → ℕ → A) → Told wide cell → (f g : ℕ → Float) → ((i : ℕ) → i < 16 → f i ≡ g i)
+    → (c : ℕ) → c < wide → cell f c ≡ cell g c
+told-one wide cell told f g e c h = told 1 f g (λ i p. e i (omega arith)) c (omega arith)
 
 module _ {A : Type 0} (z : A) (wide : ℕ) (cell : (ℕ → Float) → ℕ → A) where
   -- A group, whose u after the rows was put back; and one that stays.

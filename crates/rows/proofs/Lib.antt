@@ -1,9 +1,7 @@
 -- Laws about rows and runs, each file on those before it.
 pub mod Lent
-mod FilledFrom
-mod Flags
+mod FilledPart
 mod LanesMoved
-pub mod Places
 pub mod RowsDrawn
 mod GroupsDrawn
 pub mod BlocksDrawn

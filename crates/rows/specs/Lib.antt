@@ -2,3 +2,4 @@
 pub mod Strides
 pub mod Runs
 pub mod Rows
+pub mod Places

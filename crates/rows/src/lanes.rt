@@ -1,11 +1,10 @@
 // Sixteen lanes: taken out of the array and put back, their levels, one row on, and whether they stay.
-pub(crate) mod bytes;
-pub(crate) mod levels;
+pub(crate) mod drawing;
+pub(crate) mod places;
 pub(crate) mod spare;
 
 ghost use Rattle.std.specs.Prelude.{◌≡◌, true, ℕ, ◌+◌, ◌-◌, ◌*◌, ◌≤◌, ◌<◌, length, get_or};
 ghost use Rattle.std.specs.Float.{nan};
-ghost use Rattle.std.specs.Float.Ieee.{eq};
 ghost use Rattle.numbers.specs.Constants as Constants;
 ghost use Rattle.filled.specs.Filled.{Filled};
 ghost use Rattle.memory.specs.Memory as Memory;
@@ -20,36 +19,22 @@ const BLOCK: u32 = 64;
 // Fewer rows than this are not worth the test.
 const STILL_ROWS: u32 = 4;
 
-// Does nothing: an array that is lent on as a slice has told its length.
-fn whole(f: &[f32])
-    requires { Rows.Whole f.now }
-    ensures { Rows.Whole f.now }
-{}
-
 // The sixteen numbers from place `from` on.
 fn load(f: &Floats, from: usize) -> [f32; 16]
     requires { from ≤ 4 * Memory.lanes + 48 }
     ensures { Rows.Loaded from f.now result }
 {
     let mut x = [0.0f32; 16];
-    let mut i = 0;
-    while i < 16 {
-        x[i] = f[from + i];
-        i += 1;
-    }
+    x.copy_from_slice(&f[from..from + 16]);
     x
 }
 
 // Puts sixteen numbers from place `to` on.
 fn store(f: &mut Floats, to: usize, x: &[f32; 16])
-    requires { (to ≤ 48) × Rows.Whole f.old }
+    requires { to ≤ 48 }
     ensures { Filled nan (λ j. get_or x.now (j - to) nan) to (to + 16) f.old f.new }
 {
-    let mut i = 0;
-    while i < 16 {
-        f[to + i] = x[i];
-        i += 1;
-    }
+    f[to..to + 16].copy_from_slice(x);
 }
 
 // The lanes' levels.
@@ -57,10 +42,8 @@ fn levels_of(u: &[f32; 16], scale: &[f32; 16], base: &[f32; 16]) -> [f32; 16]
     ensures { Rows.Levels u.now scale.now base.now result }
 {
     let mut y = [0.0f32; 16];
-    let mut i = 0;
-    while i < 16 {
+    for i in 0..16 {
         y[i] = u[i] * scale[i] + base[i];
-        i += 1;
     }
     y
 }
@@ -73,33 +56,30 @@ fn next_row(
     scale: &[f32; 16],
     base: &[f32; 16],
 ) -> [f32; 16]
-    requires { length u.old ≡ 16 }
     ensures levels { Rows.Levels u.old scale.now base.now result }
     ensures moved { Filled nan (Rows.steps_at u.old r.now d.now) 0 16 u.old u.new }
 {
     let mut y = [0.0f32; 16];
-    let mut i = 0;
-    while i < 16 {
+    for i in 0..16 {
         let x = u[i];
         y[i] = x * scale[i] + base[i];
         u[i] = x * r[i] + d[i];
-        i += 1;
     }
     y
 }
 
-// Whether the sixteen numbers from place `from` on equal x.
-fn all_equal(f: &Floats, from: usize, x: f32) -> bool
-    requires { from ≤ 4 * Memory.lanes + 48 }
-    ensures { result ≡ true → (i : ℕ) → i < 16 → eq (get_or f.now (from + i) nan) x ≡ true }
+// Whether the sixteen numbers from place `from` on all pass a test. There is no early exit, so that
+// several are tested at once.
+fn all<T: Fn(f32) -> bool>(f: &Floats, from: usize, test: T) -> bool
+    requires inside { from ≤ 4 * Memory.lanes + 48 }
+    requires callable { T.IsAlwaysCallable test }
+    ensures { result ≡ true → (i : ℕ) → i < 16 → T.post test (get_or f.now (from + i) nan) true }
 {
-    let mut same = true;
-    let mut i = 0;
-    while i < 16 {
-        same = same & (f[from + i] == x);
-        i += 1;
+    let mut so_far = true;
+    for i in 0..16 {
+        so_far = so_far & test(f[from + i]);
     }
-    same
+    so_far
 }
 
 fn is_plus_zero(x: f32) -> bool
@@ -108,34 +88,14 @@ fn is_plus_zero(x: f32) -> bool
     numbers::f32_to_bits(x) == 0
 }
 
-// Whether they are +0.
-fn all_plus_zero(f: &Floats, from: usize) -> bool
-    requires { from ≤ 48 }
-    ensures { result ≡ true → (i : ℕ) → i < 16 → get_or f.now (from + i) nan ≡ Constants.zero }
-{
-    let mut same = true;
-    let mut i = 0;
-    while i < 16 {
-        same = same & is_plus_zero(f[from + i]);
-        i += 1;
-    }
-    same
-}
-
 // Whether u is +0, r 1 and d 0 in the lanes from lane g on: then every row is the first. One kind of
 // compare a loop, and not asked of few rows.
 fn constant(rows: u32, f: &Floats, g: usize) -> bool
     requires { g ≤ 48 }
-    ensures { result ≡ true → Rows.Still g f.now }
+    ensures { result ≡ true → Rows.Still g f.now × (1 ≤ rows) }
 {
-    if rows < STILL_ROWS {
-        return false;
-    }
-    if !all_equal(f, g + 2 * LANES, 0.0) {
-        return false;
-    }
-    if !all_equal(f, g + LANES, 1.0) {
-        return false;
-    }
-    all_plus_zero(f, g)
+    rows >= STILL_ROWS
+        && all(f, g + 2 * LANES, |d| d == 0.0)
+        && all(f, g + LANES, |r| r == 1.0)
+        && all(f, g, is_plus_zero)
 }

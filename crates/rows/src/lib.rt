@@ -6,8 +6,8 @@ mod lanes;
 mod runs;
 mod strides;
 
-pub use lanes::bytes::draw_bytes;
-pub use lanes::levels::draw;
+pub use lanes::drawing::draw;
+pub use lanes::places::Place;
 pub use lanes::spare::clear_spare;
 pub use runs::{count_down, next_ended, until_end};
 pub use strides::groups;

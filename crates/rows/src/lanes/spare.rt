@@ -5,7 +5,6 @@ ghost use Rattle.memory.specs.Memory as Memory;
 ghost use Rattle.rows.specs.Rows as Rows;
 ghost use Rattle.rows.specs.Strides as Strides;
 
-use crate::lanes::whole;
 use crate::strides::groups;
 use memory::{Floats, LANES, count};
 
@@ -13,15 +12,11 @@ use memory::{Floats, LANES, count};
 pub fn clear_spare(f: &mut Floats, voices: usize)
     ensures { Rows.Cleared (min voices Memory.max_voices) (Strides.stride_of (min voices Memory.max_voices)) f.old f.new }
 {
-    whole(f);
-    let stride = 16 * groups(voices);
-    let mut w = count(voices);
-    while w < stride {
+    for w in count(voices)..16 * groups(voices) {
         f[w] = 0.0;
         f[w + LANES] = 1.0;
         f[w + 2 * LANES] = 0.0;
         f[w + 3 * LANES] = 0.0;
         f[w + 4 * LANES] = 0.0;
-        w += 1;
     }
 }

@@ -1,0 +1,10 @@
+-- `draw` meets its contract. The loop's invariant: the first rows, `done` of them, are drawn.
+use Rattle.std.proofs.Common.{◌-◌, ◌≤◌}
+use Rattle.rows.specs.Rows.{Drawn}
+use Rattle.rows.proofs.lanes.drawing.draw.Given as goal
+
+abbrev pub invariant-loop-done : goal.invariant-loop-done
+invariant-loop-done g l = (l.done ≤ l.rows) × Drawn g.P.Place.blank g.row.N g.P.Place.cell l.groups l.done l.initial.f l.initial.out l.out l.f
+
+abbrev pub decreases-loop-done : goal.decreases-loop-done
+decreases-loop-done g l = l.rows - l.done

@@ -1,0 +1,8 @@
+-- `draw_block` meets its contract. The loop's invariant: the first q groups are drawn.
+use Rattle.std.proofs.Common.{◌*◌}
+use Rattle.rows.proofs.GroupsDrawn.{GroupsDrawn}
+use Rattle.rows.proofs.lanes.drawing.draw_block.Given as goal
+
+abbrev pub invariant-loop-q : goal.invariant-loop-q
+invariant-loop-q g l =
+    GroupsDrawn g.P.Place.blank g.row.N g.P.Place.cell (g.row.N * l.groups) l.q l.rows l.initial.f l.initial.out l.out l.f

@@ -1,0 +1,10 @@
+-- `draw_moving` meets its contract. The loop's invariant: the first k rows are laid, and u is the lanes' after them.
+use Rattle.std.proofs.Common.{◌+◌}
+use Rattle.rows.specs.Rows.{drawn_at, Laid}
+use Rattle.rows.proofs.LanesMoved.{Moved}
+use Rattle.rows.proofs.lanes.drawing.draw_moving.Given as goal
+
+abbrev pub invariant-loop-k : goal.invariant-loop-k
+invariant-loop-k g l =
+    Laid g.P.Place.blank g.row.N g.P.Place.cell l.stride l.at l.k (λ k i. drawn_at k l.f (l.g + i)) l.initial.out l.out
+    × Moved l.k l.g l.f l.u

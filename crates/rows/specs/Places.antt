@@ -1,0 +1,35 @@
+-- Places of a row: by which lanes they are told. So it is of floats, one to a level, and of bytes, four to a level.
+use Rattle.std.specs.Prelude.{◌≡◌, ℕ, ◌+◌, ◌*◌, ◌/◌, ◌%◌, ◌<◌, get_or, Float, refl}
+use Rattle.std.specs.Float.{binary32}
+use Rattle.std.specs.Float.Ieee.{to_bits}
+use Rattle.std.proofs.Common.{ap, ◌∙◌, arith}
+use Rattle.numbers.specs.Bytes.{lowest_first}
+use Rattle.rows.specs.Rows.{float_cell, byte_cell}
+
+module _ {A : Type 0} (wide : ℕ) (cell : (ℕ → Float) → ℕ → A) where
+  -- The places of n groups are told by their levels.
+  abbrev pub Told : Type 0
+  Told = (n : ℕ) (f g : ℕ → Float) → ((i : ℕ) → i < 16 * n → f i ≡ g i) → (c : ℕ) → c < wide * n → cell f c ≡ cell g c
+
+  -- A place of a later group is one of its own sixteen lanes.
+  abbrev pub Shifts : Type 0
+  Shifts = (f : ℕ → Float) (q c : ℕ) → cell f (wide * q + c) ≡ cell (λ i. f (16 * q + i)) c
+
+pub float-told : Told 16 float_cell
+float-told n f g e c h = e c h
+
+pub float-shifts : Shifts 16 float_cell
+float-shifts f q c = refl
+
+-- Byte j of a level.
+abbrev byte : ℕ → Float → ℕ
+byte j x = get_or (lowest_first 4 (to_bits binary32 x)) j 0
+
+pub byte-told : Told 64 byte_cell
+byte-told n f g e c h = ap (byte (c % 4)) (e (c / 4) (omega arith))
+
+pub byte-shifts : Shifts 64 byte_cell
+byte-shifts f q c =
+    let lane : (64 * q + c) / 4 ≡ 16 * q + c / 4 = omega arith in
+    let place : (64 * q + c) % 4 ≡ c % 4 = omega arith in
+    ap (λ (i : ℕ). byte ((64 * q + c) % 4) (f i)) lane ∙ ap (λ (j : ℕ). byte j (f (16 * q + c / 4))) place

@@ -1,0 +1,107 @@
+// Rows drawn, into floats or into bytes.
+ghost use Rattle.std.specs.Prelude.{◌+◌, ◌*◌, ◌≤◌, min, length};
+ghost use Rattle.memory.specs.Memory as Memory;
+ghost use Rattle.rows.specs.Rows as Rows;
+ghost use Rattle.rows.specs.Strides as Strides;
+
+use crate::lanes::places::Place;
+use crate::lanes::{BLOCK, constant, levels_of, load, next_row, store};
+use crate::strides::groups;
+use memory::{Floats, LANES};
+
+// The rows of the sixteen lanes from lane g on, which take the places from `at` on in each.
+fn draw_moving<P: Place<N>, const N: usize>(
+    out: &mut [P],
+    at: usize,
+    stride: usize,
+    rows: u32,
+    f: &mut Floats,
+    g: usize,
+)
+    requires { Rows.GroupFits N stride at rows (length out.old) g f.old }
+    ensures { Rows.GroupDrawn P.blank N P.cell stride at g rows f.old out.old out.new f.new }
+{
+    let mut u = load(f, g);
+    let r = load(f, g + LANES);
+    let d = load(f, g + 2 * LANES);
+    let scale = load(f, g + 3 * LANES);
+    let base = load(f, g + 4 * LANES);
+    for k in 0..rows {
+        let y = next_row(&mut u, &r, &d, &scale, &base);
+        let to = at + k as usize * stride;
+        out[to..to + N].copy_from_slice(&P::row_of(&y));
+    }
+    store(f, g, &u);
+}
+
+// The same of lanes that stay: every row is the first.
+fn draw_still<P: Place<N>, const N: usize>(
+    out: &mut [P],
+    at: usize,
+    stride: usize,
+    rows: u32,
+    f: &Floats,
+    g: usize,
+)
+    requires fits { Rows.GroupFits N stride at rows (length out.old) g f.now }
+    requires still { Rows.Still g f.now }
+    requires some { 1 ≤ rows }
+    ensures { Rows.Laid P.blank N P.cell stride at rows (λ k i. Rows.drawn_at k f.now (g + i)) out.old out.new }
+{
+    let u = load(f, g);
+    let scale = load(f, g + 3 * LANES);
+    let base = load(f, g + 4 * LANES);
+    let row = P::row_of(&levels_of(&u, &scale, &base));
+    for k in 0..rows {
+        let to = at + k as usize * stride;
+        out[to..to + N].copy_from_slice(&row);
+    }
+}
+
+fn draw_group<P: Place<N>, const N: usize>(
+    out: &mut [P],
+    at: usize,
+    stride: usize,
+    rows: u32,
+    f: &mut Floats,
+    g: usize,
+)
+    requires { Rows.GroupFits N stride at rows (length out.old) g f.old }
+    ensures { Rows.GroupDrawn P.blank N P.cell stride at g rows f.old out.old out.new f.new }
+{
+    if constant(rows, f, g) {
+        draw_still(out, at, stride, rows, f, g);
+    } else {
+        draw_moving(out, at, stride, rows, f, g);
+    }
+}
+
+// Rows of one group after the other.
+fn draw_block<P: Place<N>, const N: usize>(out: &mut [P], f: &mut Floats, groups: usize, rows: u32)
+    requires { (groups ≤ 4) × (rows * (N * groups) ≤ length out.old) × Rows.Whole f.old }
+    ensures { Rows.Drawn P.blank N P.cell groups rows f.old out.old out.new f.new }
+{
+    for q in 0..groups {
+        draw_group(out, N * q, N * groups, rows, f, 16 * q);
+    }
+}
+
+// The next `rows` rows of every lane of the voices' groups, from the output's first level on, if it
+// has room for them all.
+pub fn draw<P: Place<N>, const N: usize>(out: &mut [P], f: &mut Floats, voices: usize, rows: u32)
+    ensures { Rows.Drawn P.blank N P.cell (Strides.groups_of (min voices Memory.max_voices)) (Rows.fitting rows (N * Strides.groups_of (min voices Memory.max_voices)) (length out.old)) f.old out.old out.new f.new }
+{
+    let groups = groups(voices);
+    let stride = N * groups;
+    if rows as usize * stride > out.len() {
+        return;
+    }
+    let most = BLOCK / groups as u32;
+    let mut done = 0;
+    // A block may have fewer rows than the others: no plainer with `for`.
+    while done < rows {
+        let n = most.min(rows - done);
+        draw_block(&mut out[done as usize * stride..], f, groups, n);
+        done += n;
+    }
+}

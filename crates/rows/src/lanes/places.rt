@@ -1,0 +1,65 @@
+// Places of a row, and how levels take them: a float each, or four bytes each, its bits, the lowest
+// byte first.
+ghost use Rattle.std.specs.Prelude.{◌≡◌, ℕ, ◌≤◌, ◌<◌, Float, get_or};
+ghost use Rattle.std.specs.Float.{nan};
+ghost use Rattle.std.proofs.Common.{rules};
+ghost use Rattle.rows.specs.Rows as Rows;
+ghost use Rattle.rows.specs.Places as Places;
+
+// A place of a row. Sixteen levels take N of them.
+pub trait Place<const N: usize>: Copy {
+    // What a reading past the end gives.
+    ghost blank: { Self };
+
+    // Place c of a row of levels.
+    ghost cell: { (ℕ → Float) → ℕ → Self };
+
+    // Sixteen levels as they are stored.
+    fn row_of(y: &[f32; 16]) -> [Self; N]
+        ensures { (c : ℕ) → c < N → get_or result c blank ≡ cell (λ i. get_or y.now i nan) c };
+
+    // The places of groups are told by their levels.
+    ghost told: { Places.Told N cell };
+
+    // A place of a later group is one of its own sixteen lanes.
+    ghost shifts: { Places.Shifts N cell };
+
+    ghost few: { N ≤ 64 };
+}
+
+impl Place<16> for f32 {
+    ghost blank = { nan };
+
+    ghost cell = { Rows.float_cell };
+
+    fn row_of(y: &[f32; 16]) -> [f32; 16] {
+        *y
+    }
+
+    ghost told = { Places.float-told };
+
+    ghost shifts = { Places.float-shifts };
+
+    ghost few = { Prim.search rules };
+}
+
+impl Place<64> for u8 {
+    ghost blank = { 0 };
+
+    ghost cell = { Rows.byte_cell };
+
+    fn row_of(y: &[f32; 16]) -> [u8; 64] {
+        let mut row = [0; 64];
+        for i in 0..16 {
+            let bits = numbers::f32_to_bits(y[i]);
+            row[4 * i..4 * i + 4].copy_from_slice(&bits.to_le_bytes());
+        }
+        row
+    }
+
+    ghost told = { Places.byte-told };
+
+    ghost shifts = { Places.byte-shifts };
+
+    ghost few = { Prim.search rules };
+}
