@@ -31,7 +31,7 @@ impl Timing {
         ensures { result ≡ Clock.new sample_rate }
     {
         Self {
-            sample_rate: sample_rate,
+            sample_rate,
             tempo: 120.0,
             scale: 1.0,
         }
@@ -41,22 +41,14 @@ impl Timing {
     pub fn with_tempo(self, tempo: f64) -> Self
         ensures { result ≡ Clock.with_tempo self tempo }
     {
-        Self {
-            sample_rate: self.sample_rate,
-            tempo: tempo,
-            scale: self.scale,
-        }
+        Self { tempo, ..self }
     }
 
     // This timing with another factor.
     pub fn with_scale(self, scale: f64) -> Self
         ensures { result ≡ Clock.with_scale self scale }
     {
-        Self {
-            sample_rate: self.sample_rate,
-            tempo: self.tempo,
-            scale: scale,
-        }
+        Self { scale, ..self }
     }
 
     // How many samples a time lasts, to the nearest whole number; none if it is negative or NaN.
