@@ -1,8 +1,7 @@
 -- Steps of E as the loops of `exp_m1` take them: what is left of the definition, run from here, gives the answer.
-use Rattle.std.proofs.Common.{◌≡◌, ℕ, zero, suc, ◌+◌, ◌-◌, ◌<◌, ◌≤◌, sym, refl, ap, ◌∙◌, arith}
+use Rattle.std.proofs.Common.{◌≡◌, ℕ, suc, refl}
 use lib.Ieee.{Float, binary64, of_bits}
 use Rattle.numbers.specs.Rounded.{◌⊕◌, ◌⊗◌, ◌⊘◌}
-use Rattle.numbers.specs.Constants.{one, two}
 use Rattle.numbers.specs.StandIns.{whole, exp_series, doublings, exp_m1}
 use Rattle.numbers.proofs.Laws.Literals.{one', two'}
 
@@ -14,25 +13,18 @@ pub exp-start : (z : Float) → doublings 6 (reduced z ⊗ exp_series 11 (reduce
 unfolding exp_m1 of_bits
 exp-start z = refl
 
-pub series_step : (n : ℕ) (w t : Float) → 0 < n → exp_series n w t ≡ exp_series (n - 1) w (one' ⊕ (w ⊗ t) ⊘ whole (n + 1))
+pub series_step : (m n j : ℕ) (w t : Float) → n ≡ suc m → j ≡ suc (suc m) → exp_series n w t ≡ exp_series m w (one' ⊕ (w ⊗ t) ⊘ whole j)
 unfolding exp_series of_bits
-series_step zero w t h = absurd (omega arith)
-series_step (suc n) w t h =
-    let p : suc n - 1 ≡ n = omega arith in
-    let q : suc n + 1 ≡ suc (suc n) = omega arith in
-    sym (ap (λ (k : ℕ). exp_series k w (one ⊕ (w ⊗ t) ⊘ whole (suc n + 1))) p ∙ ap (λ (k : ℕ). exp_series n w (one ⊕ (w ⊗ t) ⊘ whole k)) q)
+series_step m n j w t p q = rw (p, q) refl
 
-pub series_done : (n : ℕ) (w t : Float) → n ≤ 0 → t ≡ exp_series n w t
+pub series_done : (n : ℕ) (w t : Float) → n ≡ 0 → t ≡ exp_series n w t
 unfolding exp_series
-series_done zero w t h = refl
-series_done (suc n) w t h = absurd (omega arith)
+series_done n w t h = rw h refl
 
-pub doublings-step : (n : ℕ) (y : Float) → 0 < n → doublings n y ≡ doublings (n - 1) (y ⊗ (y ⊕ two'))
+pub doublings_step : (m n : ℕ) (y : Float) → n ≡ suc m → doublings n y ≡ doublings m (y ⊗ (y ⊕ two'))
 unfolding doublings of_bits
-doublings-step zero y h = absurd (omega arith)
-doublings-step (suc n) y h = let p : suc n - 1 ≡ n = omega arith in sym (ap (λ (k : ℕ). doublings k (y ⊗ (y ⊕ two))) p)
+doublings_step m n y h = rw h refl
 
-pub doublings-done : (n : ℕ) (y : Float) → n ≤ 0 → y ≡ doublings n y
+pub doublings_done : (n : ℕ) (y : Float) → n ≡ 0 → y ≡ doublings n y
 unfolding doublings
-doublings-done zero y h = refl
-doublings-done (suc n) y h = absurd (omega arith)
+doublings_done n y h = rw h refl

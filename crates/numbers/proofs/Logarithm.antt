@@ -1,12 +1,13 @@
 -- L as `ln_1p` and `ln_of` compute it: the series' steps, the exponent as an i32, and the branches.
-use Rattle.std.proofs.Common.{◌≡◌, ℕ, zero, suc, ◌+◌, ◌-◌, ◌*◌, ◌/◌, ◌%◌, ◌^◌, ◌<◌, ◌≤◌, Bool, true, false, cond, not, ◌&&◌, T, ltb, ℤ, pos, negsuc, ◌+ℤ◌, ◌-ℤ◌, sym, refl, ap, ◌∙◌, subst, lt_of_lt_of_le, mod-lt, arith, lit<, lit≤, pow_pos, w32, SFits, to_z, of_z, le-ltb}
+use Rattle.std.proofs.Common.{◌≡◌, ℕ, suc, ◌+◌, ◌-◌, ◌*◌, ◌/◌, ◌%◌, ◌^◌, ◌<◌, ◌≤◌, Bool, true, false, cond, not, ◌&&◌, T, ltb, ℤ, pos, negsuc, ◌+ℤ◌, ◌-ℤ◌, sym, refl, ap, ◌∙◌, subst, lt_of_lt_of_le, mod-lt, arith, lit<, lit≤, pow_pos, w32, SFits, to_z, of_z}
+use Rattle.std.proofs.lemmas.Float.{not_nan_f64_bits}
 use mathlib.Core.Bool.{false≢true}
 use lib.IntN.{sub_ℕ}
 use lib.Signed.{mag}
 use mir.ValLaws.{to_z_pos, to_z-of_z}
 use borrow.Author.Tests.{lt-leb}
-use lib.Ieee.{Float, nan, inf, fin, binary64, add, div, of_bits, of_int, of_fields, to_bits, is_nan, fits, nan_bits, eq, lt, le}
-use lib.Ieee.Bits.{nan_bits_above, to_bits-lt}
+use lib.Ieee.{Float, nan, inf, fin, binary64, add, of_bits, of_int, of_fields, to_bits, is_nan, fits, nan_bits, eq, lt, le}
+use lib.Ieee.Bits.{to_bits-lt}
 use lib.Ieee.Fits.{add-fits}
 use lib.Ieee.Scale.{finite}
 use Rattle.numbers.specs.Rounded.{◌⊕◌, ◌⊖◌, ◌⊗◌, ◌⊘◌}
@@ -30,17 +31,13 @@ ratio m = (m ⊖ one') ⊘ (m ⊕ one')
 abbrev pub first_term : Float
 first_term = one' ⊘ of_bits binary64 0x4037_0000_0000_0000
 
-pub series_step : (n : ℕ) (s t answer : Float) → 0 < n → ln_series n s t ≡ answer → ln_series (n - 1) s (one' ⊘ whole (2 * (n - 1) + 1) ⊕ (s ⊗ s) ⊗ t) ≡ answer
+pub series_step : (m n : ℕ) (s t : Float) → n ≡ suc m → ln_series m s (one' ⊘ whole (2 * m + 1) ⊕ (s ⊗ s) ⊗ t) ≡ ln_series n s t
 unfolding ln_series of_bits
-series_step zero s t answer h e = absurd (omega arith)
-series_step (suc n) s t answer h e =
-    let p : suc n - 1 ≡ n = omega arith in
-    ap (λ (k : ℕ). ln_series k s (one ⊘ whole (2 * k + 1) ⊕ (s ⊗ s) ⊗ t)) p ∙ e
+series_step m n s t h = rw h refl
 
-pub series_done : (n : ℕ) (s t answer : Float) → n ≤ 0 → ln_series n s t ≡ answer → t ≡ answer
+pub series_done : (n : ℕ) (s t : Float) → n ≡ 0 → t ≡ ln_series n s t
 unfolding ln_series
-series_done zero s t answer h e = e
-series_done (suc n) s t answer h e = absurd (omega arith)
+series_done n s t h = rw h refl
 
 pub ln_of_is : (a w m : Float) (e e' : ℤ) (t : Float) → e' ≡ e → t ≡ ln_series 11 (ratio m) first_term
     → (of_int binary64 e' ⊗ ln2 ⊕ (two' ⊗ ratio m) ⊗ t) ⊗ (a ⊘ (w ⊖ one')) ≡ ln_of a w m e
@@ -110,7 +107,7 @@ one_with_digits t h =
     d t h = omega arith
 
 digits_not_nan : (t : ℕ) → t < 2 ^ 52 → T (not (nan_bits binary64 (t + 0x3ff0_0000_0000_0000)))
-digits_not_nan t h = subst (λ (v : Bool). T (not v)) (sym (nan_bits_above binary64 (t + 0x3ff0_0000_0000_0000) ∙ le-ltb _ _ (go t h))) tt
+digits_not_nan t h = not_nan_f64_bits (t + 0x3ff0_0000_0000_0000) (go t h)
   where
     go : (t : ℕ) → t < 4503599627370496 → (t + 4607182418800017408) % 9223372036854775808 ≤ 9218868437227405312
     go t h = omega arith
@@ -144,15 +141,15 @@ unfolding ln1p of_bits
 ln_not_above a h k = simp (h, k, and_false (finite (W a)))
 
 abbrev infinity' : Float
-infinity' = one' ⊘ of_bits binary64 0
+infinity' = of_bits binary64 0x7ff0_0000_0000_0000
 
 pub ln_infinite : (a : Float) → eq (W a) one' ≡ false → lt (of_bits binary64 0) (W a) ≡ true → lt (W a) infinity' ≡ false → nan ≡ ln1p a
-unfolding ln1p of_bits div
+unfolding ln1p of_bits
 ln_infinite a h k l = simp (h, k, finite_below (W a) k false l)
 
 ln_parts : (a : Float) → eq (W a) one' ≡ false → lt (of_bits binary64 0) (W a) ≡ true → lt (W a) infinity' ≡ true
     → ln_split a (W a) (significand (W a)) (exponent (W a)) ≡ ln1p a
-unfolding ln1p of_bits div
+unfolding ln1p of_bits
 ln_parts a h k l = simp (h, k, finite_below (W a) k true l)
 
 split_halved : (m : Float) → le (of_bits binary64 0x3ff8_0000_0000_0000) m ≡ true → (a w : Float) (e : ℤ) → ln_of a w (m ⊗ half') (e +ℤ pos 1) ≡ ln_split a w m e
@@ -186,11 +183,11 @@ module _ (a : Float) (F : T (fits binary64 a)) (h : eq (W a) one' ≡ false) (k 
   digits = mod-lt b (pow_pos 52)
 
   significand-is : m' ≡ significand (W a)
-  unfolding field_significand of_bits div
+  unfolding field_significand of_bits
   significand-is = one_with_digits (b % 2 ^ 52) digits ∙ (parts_by_fields a F k l).0
 
   exponent-is : pos (b / 2 ^ 52) -ℤ pos 1023 ≡ exponent (W a)
-  unfolding field_exponent of_bits div
+  unfolding field_exponent of_bits
   exponent-is = (parts_by_fields a F k l).1
 
   by_parts : ln_split a (W a) m' (pos (b / 2 ^ 52) -ℤ pos 1023) ≡ ln1p a

@@ -1,6 +1,8 @@
 -- `narrow` by the fields of the bit pattern: overflow, normal results, subnormal results and zero. It depends on the value alone (`narrow-value`), so
 -- each range of the exponent is arithmetic on the digits: those that are dropped are rounded by `closest`, and what is kept is the result's pattern.
 use Rattle.std.proofs.Common.{◌≡◌, ℕ, zero, suc, ◌+◌, ◌-◌, ◌*◌, ◌/◌, ◌%◌, ◌^◌, ◌<◌, ◌≤◌, Bool, true, false, not, T, leb, ◌⊎◌, sym, refl, ap, ◌∙◌, subst, inl, inr, le_trans, le_of_eq, lt_of_lt_of_le, lt_of_le_of_lt, mul-le-mul_right, mod-eq_of_lt, zero-lt-suc, mul_assoc, div-lt_iff_lt-mul, mul-pos, le-div_iff_mul-le, zero-add, mul-one, arith, lit<, lit≤, leb→le, pow_pos, pow_mono, pow-add, shl_lt}
+use Rattle.std.proofs.lemmas.Bool.{cases_lt}
+use Rattle.std.proofs.lemmas.Nat.{one_shl}
 use Prim.Native.Nat.{compare}
 use native.Mathlib.Nat.{div-eq_of_lt}
 use lib.Dec.{nleb→lt}
@@ -14,8 +16,8 @@ use lib.Ieee.Nearest.{closest, closest_same, nearest-ge}
 use lib.Ieee.Scale.{round_same}
 use Rattle.numbers.specs.Conversions.{narrow}
 use Rattle.numbers.specs.Parts.{Narrowed}
-use Rattle.numbers.proofs.Laws.Order.{le_or_lt, compare_lt}
-use Rattle.numbers.proofs.Laws.Digits.{two_pow, size_is, one_shifted}
+use Rattle.numbers.proofs.Laws.Order.{compare_lt}
+use Rattle.numbers.proofs.Laws.Digits.{two_pow, size_is}
 use Rattle.numbers.proofs.Laws.Floats.{round_signed, signed_not_nan}
 use Rattle.numbers.proofs.Laws.Patterns.{normal-field, lead_lt, lead_le, pattern_lt, fields_of}
 use Rattle.numbers.proofs.Laws.Binary32.{sign, infinite_pattern, units_infinite, round_units, round_pattern}
@@ -197,16 +199,16 @@ tiny_normal s j t h l =
 -- ---- the four answers of `narrow_fields`
 
 pub narrowed-overflow : (e t : ℕ) → e < 2048 → t < 2 ^ 52 → (e ≡ 2047 → t ≡ 0) → 1151 ≤ e → Narrowed e t 2139095040
-narrowed-overflow e t a b z h = record { small = lit< tt; is = λ s. go s (le_or_lt 2047 e) }
+narrowed-overflow e t a b z h = record { small = lit< tt; is = λ s. go s (cases_lt e 2047) }
   where
     top : (e : ℕ) → e < 2048 → 2047 ≤ e → e ≡ 2047
     top e a b = omega arith
 
-    go : (s : Bool) → (2047 ≤ e) ⊎ (e < 2047) → of_bits binary32 (sign s + 2139095040) ≡ narrow (of_fields binary64 s e t)
-    go s (inl g) =
+    go : (s : Bool) → (e < 2047) ⊎ (2047 ≤ e) → of_bits binary32 (sign s + 2139095040) ≡ narrow (of_fields binary64 s e t)
+    go s (inr g) =
         let p : e ≡ 2047 = top e a g in
         infinite s ∙ ap (λ (x : ℕ). narrow (of_fields binary64 s 2047 x)) (sym (z p)) ∙ ap (λ (x : ℕ). narrow (of_fields binary64 s x t)) (sym p)
-    go s (inr g) =
+    go s (inl g) =
         let p : suc (e - 1) ≡ e = omega arith in
         overflow s (e - 897) (e - 1) t b (omega arith) (omega arith) (omega arith) ∙ ap (λ (x : ℕ). narrow (of_fields binary64 s x t)) p
 
@@ -223,13 +225,13 @@ narrowed-normal e t r b l h q =
 -- The divisor `1 << (926 - e)` is a power of two that `nearest` takes.
 pub divisor : (e t : ℕ) → t < 2 ^ 52 → 873 ≤ e → e < 897 → (0 < 1 * 2 ^ (926 - e) % 2 ^ 64) × (2 ^ 52 + t < 2 ^ 53) × (1 * 2 ^ (926 - e) % 2 ^ 64 < 2 ^ 54)
 divisor e t b l h =
-    let z : 1 * 2 ^ (926 - e) % 2 ^ 64 ≡ 2 ^ (926 - e) = one_shifted 64 (926 - e) (omega arith) in
+    let z : 1 * 2 ^ (926 - e) % 2 ^ 64 ≡ 2 ^ (926 - e) = one_shl (926 - e) 64 (omega arith) in
     let k : 926 - e < 54 = omega arith in
     (subst (λ (x : ℕ). 0 < x) (sym z) (pow_pos (926 - e)), lead_lt t b, subst (λ (x : ℕ). x < 2 ^ 54) (sym z) (pow-lt k))
 
 pub narrowed-subnormal : (e t r : ℕ) → t < 2 ^ 52 → 873 ≤ e → e < 897 → r ≡ closest (2 ^ 52 + t) (1 * 2 ^ (926 - e) % 2 ^ 64) → Narrowed e t r
 narrowed-subnormal e t r b l h q =
-    let z : 1 * 2 ^ (926 - e) % 2 ^ 64 ≡ 2 ^ (926 - e) = one_shifted 64 (926 - e) (omega arith) in
+    let z : 1 * 2 ^ (926 - e) % 2 ^ 64 ≡ 2 ^ (926 - e) = one_shl (926 - e) 64 (omega arith) in
     let q' : r ≡ closest (2 ^ 52 + t) (2 ^ (926 - e)) = q ∙ ap (closest (2 ^ 52 + t)) z in
     let p : suc (e - 1) ≡ e = omega arith in
     record {

@@ -1,6 +1,9 @@
 -- `round_u64` by the fields of the bit pattern, and the largest count that a bounded number rounds to. It depends on the value alone (`round_value`),
 -- and rounding half up is one division (`nearest_is`); so each range of the exponent is arithmetic.
 use Rattle.std.proofs.Common.{◌≡◌, ℕ, zero, suc, ◌+◌, ◌-◌, ◌*◌, ◌/◌, ◌%◌, ◌^◌, ◌<◌, ◌≤◌, min, Bool, true, false, cond, not, T, ltb, leb, ◌⊎◌, pos, sym, refl, ap, ◌∙◌, subst, inl, inr, zero-le, le_trans, le_of_eq, lt_of_lt_of_le, le_of_suc-le-suc, mul-le-mul_right, mod-lt, zero-lt-suc, mul_assoc, suc-mul, mul_comm, div-lt_iff_lt-mul, add-mul, mul-pos, div-add-mod', le-div_iff_mul-le, mul-one, div-le_self, arith, lit≤, ltb→lt, nltb→le, pow_pos, pow_mono, pow-add, shl_lt, shl_exact}
+use Rattle.std.proofs.lemmas.Bool.{cases_lt}
+use Rattle.std.proofs.lemmas.Nat.{one_shl}
+use Rattle.std.proofs.Math.Nat.{min-eq_right, min-eq_left}
 use native.Mathlib.Nat.{mul-mul-mul_comm, div-eq_of_lt}
 use lib.Pow.{pow-lt}
 use lib.Ieee.{Float, nan, inf, fin, binary64, up, down, odd, of_fields, to_bits, fits}
@@ -8,8 +11,7 @@ use lib.Ieee.Fits.{down_pos}
 use lib.Ieee.Exact.{HasValue, odd_sign}
 use lib.Ieee.Nearest.{div_same}
 use Rattle.numbers.specs.Conversions.{nearest_whole, round_u64}
-use Rattle.numbers.proofs.Laws.Order.{le_or_lt, min_left, min_right}
-use Rattle.numbers.proofs.Laws.Digits.{two_pow, one_shifted}
+use Rattle.numbers.proofs.Laws.Digits.{two_pow}
 use Rattle.numbers.proofs.Laws.Patterns.{normal-field, lead_lt, lead_le, fields_of}
 use Rattle.numbers.proofs.Laws.Zero.{Zero}
 use Rattle.numbers.proofs.Laws.Bounds.{Upto}
@@ -98,7 +100,7 @@ exceeds t j h =
     e2 a b c h = omega arith
 
 pub rounded_held : (e t : ℕ) → e < 2048 → (e ≡ 2047 → t ≡ 0) → 1087 ≤ e → 2 ^ 64 - 1 ≡ round_u64 (of_fields binary64 false e t)
-rounded_held e t a z h = go (le_or_lt 2047 e)
+rounded_held e t a z h = go (cases_lt e 2047)
   where
     top : (e : ℕ) → e < 2048 → 2047 ≤ e → e ≡ 2047
     top e a b = omega arith
@@ -106,14 +108,14 @@ rounded_held e t a z h = go (le_or_lt 2047 e)
     less : (x : ℕ) → 18446744073709551616 ≤ x → 18446744073709551615 ≤ x
     less x h = omega arith
 
-    go : (2047 ≤ e) ⊎ (e < 2047) → 2 ^ 64 - 1 ≡ round_u64 (of_fields binary64 false e t)
-    go (inl g) =
+    go : (e < 2047) ⊎ (2047 ≤ e) → 2 ^ 64 - 1 ≡ round_u64 (of_fields binary64 false e t)
+    go (inr g) =
         let p : e ≡ 2047 = top e a g in
         round_infinite false ∙ ap (λ (x : ℕ). round_u64 (of_fields binary64 false 2047 x)) (sym (z p)) ∙ ap (λ (x : ℕ). round_u64 (of_fields binary64 false x t)) (sym p)
-    go (inr g) =
+    go (inl g) =
         let p : suc (e - 1) ≡ e = omega arith in
         sym
-        (round_normal false (e - 1) t (omega arith) ∙ min_right (half_up ((2 ^ 52 + t) * 2 ^ (e - 1)) (2 ^ 1074)) (2 ^ 64 - 1) (less (half_up ((2 ^ 52 + t) * 2 ^ (e - 1)) (2 ^ 1074)) (exceeds t (e - 1) (omega arith))))
+        (round_normal false (e - 1) t (omega arith) ∙ min-eq_right (less (half_up ((2 ^ 52 + t) * 2 ^ (e - 1)) (2 ^ 1074)) (exceeds t (e - 1) (omega arith))))
         ∙ ap (λ (x : ℕ). round_u64 (of_fields binary64 false x t)) p
 
 pub rounded_whole : (e t : ℕ) → t < 2 ^ 52 → 1076 ≤ e → e < 1087 → (2 ^ 52 + t) * 2 ^ (e - 1075) % 2 ^ 64 ≡ round_u64 (of_fields binary64 false e t)
@@ -139,7 +141,7 @@ rounded_whole e t b l h =
 pub divisor : (e : ℕ) → 1022 ≤ e → e < 1076 → (1 * 2 ^ (1075 - e) % 2 ^ 64 ≡ 2 ^ (1075 - e)) × (0 < 1 * 2 ^ (1075 - e) % 2 ^ 64) × (1 * 2 ^ (1075 - e) % 2 ^ 64 < 2 ^ 54)
 divisor e l h =
     let k : 1075 - e < 54 = omega arith in
-    let z : 1 * 2 ^ (1075 - e) % 2 ^ 64 ≡ 2 ^ (1075 - e) = one_shifted 64 (1075 - e) (omega arith) in
+    let z : 1 * 2 ^ (1075 - e) % 2 ^ 64 ≡ 2 ^ (1075 - e) = one_shl (1075 - e) 64 (omega arith) in
     (z, subst (λ (x : ℕ). 0 < x) (sym z) (pow_pos (1075 - e)), subst (λ (x : ℕ). x < 2 ^ 54) (sym z) (pow-lt k))
 
 pub rounded_fraction : (e t : ℕ) → t < 2 ^ 52 → 1022 ≤ e → e < 1076 → half_up (2 ^ 52 + t) (1 * 2 ^ (1075 - e) % 2 ^ 64) ≡ round_u64 (of_fields binary64 false e t)
@@ -153,7 +155,7 @@ rounded_fraction e t b l h =
     ∙ sym (round_normal false (e - 1) t (omega arith)
     ∙ ap (λ (x : ℕ). min x (2 ^ 64 - 1))
     (half-same (d * 2 ^ (e - 1)) (2 ^ 1074) d u (pow_pos 1074) (pow_pos (1075 - e)) (mul_assoc d (2 ^ (e - 1)) u ∙ ap (λ (x : ℕ). d * x) (two_pow (e - 1) (1075 - e) 1074 (omega arith))))
-    ∙ min_left (half_up d u) (2 ^ 64 - 1) (le_trans (div-le_self (d * 2 + u) (u * 2)) (bound t u b U)))
+    ∙ min-eq_left (le_trans (div-le_self (d * 2 + u) (u * 2)) (bound t u b U)))
     ∙ ap (λ (x : ℕ). round_u64 (of_fields binary64 false x t)) p
   where
     bound : (t u : ℕ) → t < 4503599627370496 → u < 18014398509481984 → (4503599627370496 + t) * 2 + u ≤ 18446744073709551615
@@ -177,13 +179,13 @@ rounded_zero (suc j) t b h =
 
 pub rounded_negative : (e t : ℕ) → e < 2048 → (e ≡ 2047 → t ≡ 0) → 0 ≡ round_u64 (of_fields binary64 true e t)
 rounded_negative zero t a z = sym (round_subnormal true t)
-rounded_negative (suc j) t a z = go (le_or_lt 2047 (suc j))
+rounded_negative (suc j) t a z = go (cases_lt (suc j) 2047)
   where
-    go : (2047 ≤ suc j) ⊎ (suc j < 2047) → 0 ≡ round_u64 (of_fields binary64 true (suc j) t)
-    go (inl g) =
+    go : (suc j < 2047) ⊎ (2047 ≤ suc j) → 0 ≡ round_u64 (of_fields binary64 true (suc j) t)
+    go (inr g) =
         let p : suc j ≡ 2047 = omega arith in
         round_infinite true ∙ ap (λ (x : ℕ). round_u64 (of_fields binary64 true 2047 x)) (sym (z p)) ∙ ap (λ (x : ℕ). round_u64 (of_fields binary64 true x t)) (sym p)
-    go (inr g) = sym (round_normal true j t g)
+    go (inl g) = sym (round_normal true j t g)
 
 pub round_nan : (x : Float) → x ≡ nan → 0 ≡ round_u64 x
 unfolding round_u64

@@ -1,6 +1,7 @@
 -- The parts of L's w: `significand` and `exponent` are m and e of w = m × 2^e with 1 ≤ m < 2 (`normalised`), and the fields of w's bit pattern give
 -- them (`parts_by_fields`), since w = 1 + a is normal: where it is above 0 it is 2^-53 at least.
 use Rattle.std.proofs.Common.{◌≡◌, ℕ, zero, suc, ◌+◌, ◌-◌, ◌*◌, ◌/◌, ◌%◌, ◌^◌, ◌<◌, ◌≤◌, Bool, true, false, cond, not, T, ltb, leb, ◌⊎◌, ℤ, pos, negsuc, ◌+ℤ◌, ◌-ℤ◌, neg_ℤ, sym, refl, ap, ◌∙◌, subst, inl, inr, le_trans, le_of_eq, lt_of_lt_of_le, le_of_suc-le-suc, lt_of_le_of_lt, lt_irrefl, mul-le-mul_right, zero-lt-suc, mul_assoc, eq-zero-or-pos, mul-le-mul_left, mul-pos, one-mul, lt_of_not-le, zero-add, zero-mul, mul-one, le_of_mul-le-mul_right, mul-div_cancel, mul_left_comm, arith, lit<, lit≤, ltb→lt, lt→ltb, leb→le, nltb→le, pow_pos, pow_mono, ltb-true}
+use Rattle.std.proofs.lemmas.Bool.{cases_lt}
 use mathlib.Core.Bool.{false≢true}
 use native.Mathlib.Nat.{pow-succ'}
 use lib.IntN.{sub_ℕ, +ℤ_comm, +ℤ-neg_ℤ_cancel}
@@ -14,7 +15,6 @@ use lib.Ieee.Order.{round_mono, le_of_values}
 use Rattle.numbers.specs.Constants as Constants
 use Rattle.numbers.specs.Constants.{one, two}
 use Rattle.numbers.specs.StandIns.{significand, exponent}
-use Rattle.numbers.proofs.Laws.Order.{le_or_lt}
 use Rattle.numbers.proofs.Laws.Digits.{two_pow, size-pos, size_shift}
 use Rattle.numbers.proofs.Laws.Zero.{round_zero}
 use Rattle.numbers.proofs.Laws.Floats.{Signed, round_signed, le_says}
@@ -237,14 +237,14 @@ gap zero d F h = none (down d) (0 * up d) (zero-mul (up d))
     none : (a b : ℕ) → b ≡ 0 → 1 * a ≤ (1 * a - b * 1) * 9007199254740992
     none a b e = omega arith
 gap (suc n) (pos k) F h = le_trans (lit≤ {m = 1} {n = 2 ^ 53} tt) (le_trans (le_of_eq (sym (one-mul (2 ^ 53)))) (mul-le-mul_right (2 ^ 53) h))
-gap (suc n) (negsuc k) F h = go (le_or_lt (suc k) 53)
+gap (suc n) (negsuc k) F h = go (cases_lt 53 (suc k))
   where
     far : (N A X : ℕ) → N < 9007199254740992 → A ≡ 2 * X → 9007199254740992 ≤ X → 1 * A ≤ (1 * A - N * 1 * 1) * 9007199254740992
     far N A X a b c = omega arith
 
-    go : (suc k ≤ 53) ⊎ (53 < suc k) → 1 * 2 ^ suc k ≤ (1 * 2 ^ suc k - suc n * 1 * 1) * 2 ^ 53
-    go (inl l) = le_trans (le_trans (le_of_eq (one-mul (2 ^ suc k))) (pow_mono l)) (le_trans (le_of_eq (sym (one-mul (2 ^ 53)))) (mul-le-mul_right (2 ^ 53) h))
-    go (inr l) = far (suc n) (2 ^ suc k) (2 ^ k) (fits-parts binary64 true n (negsuc k) F).1 (pow-succ' 2 k) (pow_mono (le_of_suc-le-suc l))
+    go : (53 < suc k) ⊎ (suc k ≤ 53) → 1 * 2 ^ suc k ≤ (1 * 2 ^ suc k - suc n * 1 * 1) * 2 ^ 53
+    go (inr l) = le_trans (le_trans (le_of_eq (one-mul (2 ^ suc k))) (pow_mono l)) (le_trans (le_of_eq (sym (one-mul (2 ^ 53)))) (mul-le-mul_right (2 ^ 53) h))
+    go (inl l) = far (suc n) (2 ^ suc k) (2 ^ k) (fits-parts binary64 true n (negsuc k) F).1 (pow-succ' 2 k) (pow_mono (le_of_suc-le-suc l))
 
 sum_at_least : (a : Float) → T (fits binary64 a) → lt Constants.zero (add binary64 one a) ≡ true → lt (add binary64 one a) (inf false) ≡ true
     → T (le smallest (add binary64 one a))

@@ -6,35 +6,23 @@ ghost use Rattle.std.specs.Float.{binary32, binary64};
 pub fn f32_to_bits(x: f32) -> u32
     ensures { result ≡ to_bits binary32 x }
 {
-    if x != x { 0x7fc0_0000 } else { f32::to_bits(x) }
+    std::num::f32_to_bits_with_nan(x)
 }
 
 pub fn f32_from_bits(b: u32) -> f32
     ensures { result ≡ from_bits binary32 b }
 {
-    if b % 0x8000_0000 > 0x7f80_0000 {
-        0.0 / 0.0
-    } else {
-        f32::from_bits(b)
-    }
+    std::num::f32_from_bits_with_nan(b)
 }
 
 pub fn f64_to_bits(x: f64) -> u64
     ensures { result ≡ to_bits binary64 x }
 {
-    if x != x {
-        0x7ff8_0000_0000_0000
-    } else {
-        f64::to_bits(x)
-    }
+    std::num::f64_to_bits_with_nan(x)
 }
 
 pub fn f64_from_bits(b: u64) -> f64
     ensures { result ≡ from_bits binary64 b }
 {
-    if b % 0x8000_0000_0000_0000 > 0x7ff0_0000_0000_0000 {
-        0.0 / 0.0
-    } else {
-        f64::from_bits(b)
-    }
+    std::num::f64_from_bits_with_nan(b)
 }

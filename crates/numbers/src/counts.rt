@@ -6,16 +6,12 @@ ghost use Rattle.numbers.specs.Counts as Counts;
 pub fn saturating_add(a: u64, b: u64) -> u64
     ensures { result ≡ Counts.held (a + b) }
 {
-    if a < 0xffff_ffff_ffff_ffff - b {
-        a + b
-    } else {
-        0xffff_ffff_ffff_ffff
-    }
+    a.saturating_add(b)
 }
 
 // a - b, or 0.
 pub fn saturating_sub(a: u64, b: u64) -> u64
     ensures { result ≡ a - b }
 {
-    if b < a { a - b } else { 0 }
+    a.saturating_sub(b)
 }

@@ -9,16 +9,12 @@ pub fn exp_m1(z: f64) -> f64
 {
     let w = z / 64.0;
     let mut t = 1.0;
-    let mut terms: u32 = 11;
-    while terms > 0 {
-        t = 1.0 + (w * t) / ((terms + 1) as f64);
-        terms -= 1;
+    for j in (2..13u32).rev() {
+        t = 1.0 + (w * t) / (j as f64);
     }
     let mut y = w * t;
-    let mut doublings: u32 = 6;
-    while doublings > 0 {
+    for _ in 0..6u32 {
         y = y * (y + 2.0);
-        doublings -= 1;
     }
     y
 }
@@ -35,15 +31,10 @@ pub fn powi(r: f64, len: u32) -> f64
     ensures { result ≡ StandIns.powi r len }
 {
     let mut p = r;
-    let zeros = u32::leading_zeros(len);
-    if zeros >= 31 {
-        return p;
-    }
-    let mut bits: u32 = 31 - zeros;
-    while bits > 0 {
-        bits -= 1;
+    let bits = len.checked_ilog2().unwrap_or(0);
+    for bit in (0..bits).rev() {
         p = p * p;
-        if len / (1 << bits) % 2 == 1 {
+        if (len >> bit) % 2 == 1 {
             p = p * r;
         }
     }
@@ -57,9 +48,7 @@ fn ln_of(a: f64, w: f64, m: f64, e: i32) -> f64
 {
     let s = (m - 1.0) / (m + 1.0);
     let mut t = 1.0 / 23.0;
-    let mut n: u32 = 11;
-    while n > 0 {
-        n -= 1;
+    for n in (0..11u32).rev() {
         t = 1.0 / ((2 * n + 1) as f64) + (s * s) * t;
     }
     ((e as f64) * f64::from_bits(0x3fe6_2e42_fefa_39ef) + (2.0 * s) * t) * (a / (w - 1.0))
@@ -73,18 +62,17 @@ pub fn ln_1p(a: f64) -> f64
     if w == 1.0 {
         return a;
     }
-    if w > 0.0 {
-        if w < 1.0 / 0.0 {
-            // 1 + a is never subnormal, so the fields of its pattern are its exponent and digits.
-            let b = f64::to_bits(w);
-            let e = ((b / 0x10_0000_0000_0000) as i32) - 1023;
-            let m = f64::from_bits(b % 0x10_0000_0000_0000 + 0x3ff0_0000_0000_0000);
-            if m >= 1.5 {
-                return ln_of(a, w, m * 0.5, e + 1);
-            }
-            return ln_of(a, w, m, e);
+    if w > 0.0 && w < f64::INFINITY {
+        // 1 + a is never subnormal, so the fields of its pattern are its exponent and digits.
+        let b = f64::to_bits(w);
+        let e = ((b / 0x10_0000_0000_0000) as i32) - 1023;
+        let m = f64::from_bits(b % 0x10_0000_0000_0000 + 0x3ff0_0000_0000_0000);
+        if m >= 1.5 {
+            ln_of(a, w, m * 0.5, e + 1)
+        } else {
+            ln_of(a, w, m, e)
         }
-        return 0.0 / 0.0;
+    } else {
+        f64::NAN
     }
-    0.0 / 0.0
 }

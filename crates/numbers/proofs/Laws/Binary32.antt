@@ -1,5 +1,6 @@
 -- The binary32 pattern that a rounded fraction has: q × 2^k smallest values are written k × 2^23 + q, where q has the leading digit or k is 0.
 use Rattle.std.proofs.Common.{◌≡◌, ℕ, ◌+◌, ◌-◌, ◌*◌, ◌/◌, ◌^◌, ◌<◌, ◌≤◌, Bool, true, false, cond, T, ltb, ◌⊎◌, sym, refl, ap, ◌∙◌, subst, inl, inr, le_trans, le_of_eq, lt_of_lt_of_le, lt_of_le_of_lt, add_assoc, mul-le-mul_right, eq-or-lt_of_le, mul-one, not-le_of_lt, div-one, mul-div_cancel, arith, ltb→lt, pow_pos, pow_mono, pow-add, shl_lt}
+use Rattle.std.proofs.lemmas.Bool.{cases_lt}
 use lib.Dec.{not_T}
 use lib.Pow.{pow-lt}
 use lib.Ieee.{Float, inf, binary32, size, odd, units, round, fits, of_bits}
@@ -8,7 +9,6 @@ use lib.Ieee.Fits.{round_is, round-fits}
 use lib.Ieee.Bits.{cond_no, of_bits-to_bits}
 use lib.Ieee.Exact.{units_val}
 use lib.Ieee.Nearest.{closest}
-use Rattle.numbers.proofs.Laws.Order.{le_or_lt}
 use Rattle.numbers.proofs.Laws.Digits.{two_pow, size_is}
 use Rattle.numbers.proofs.Laws.Patterns.{to_bits_is}
 
@@ -73,13 +73,13 @@ subnormal q h =
 magnitude-is : (q k : ℕ) → q ≤ 2 ^ 24 → Lead q k → magnitude (q * 2 ^ k) ≡ k * 2 ^ 23 + q
 magnitude-is q k le lead = elim (eq-or-lt_of_le le) [
   | inl e ↦ subst (λ (x : ℕ). magnitude (x * 2 ^ k) ≡ k * 2 ^ 23 + x) (sym e) (carried k)
-  | inr l ↦ go l lead (le_or_lt (2 ^ 23) q)
+  | inr l ↦ go l lead (cases_lt q (2 ^ 23))
 ]
   where
-    go : q < 2 ^ 24 → Lead q k → (2 ^ 23 ≤ q) ⊎ (q < 2 ^ 23) → magnitude (q * 2 ^ k) ≡ k * 2 ^ 23 + q
-    go l h (inl g) = with_lead q k g l
-    go l (inl g) (inr m) = with_lead q k g l
-    go l (inr z) (inr m) = subst (λ (x : ℕ). magnitude (q * 2 ^ x) ≡ x * 2 ^ 23 + q) (sym z) (subnormal q m)
+    go : q < 2 ^ 24 → Lead q k → (q < 2 ^ 23) ⊎ (2 ^ 23 ≤ q) → magnitude (q * 2 ^ k) ≡ k * 2 ^ 23 + q
+    go l h (inr g) = with_lead q k g l
+    go l (inl g) (inl m) = with_lead q k g l
+    go l (inr z) (inl m) = subst (λ (x : ℕ). magnitude (q * 2 ^ x) ≡ x * 2 ^ 23 + q) (sym z) (subnormal q m)
 
 -- ---- the pattern read as a value
 

@@ -1,5 +1,5 @@
 -- Powers of two and the number of binary digits.
-use Rattle.std.proofs.Common.{◌≡◌, ℕ, suc, ◌+◌, ◌-◌, ◌*◌, ◌%◌, ◌^◌, ◌<◌, ◌≤◌, sym, ap, ◌∙◌, le_trans, le_of_eq, lt_of_lt_of_le, le_of_suc-le-suc, lt_irrefl, mul-le-mul_right, mod-eq_of_lt, one-mul, lt_of_not-le, not-le_of_lt, arith, pow_mono, pow-add, shl_lt}
+use Rattle.std.proofs.Common.{◌≡◌, ℕ, suc, ◌+◌, ◌-◌, ◌*◌, ◌^◌, ◌<◌, ◌≤◌, sym, ap, ◌∙◌, le_trans, le_of_eq, lt_of_lt_of_le, le_of_suc-le-suc, lt_irrefl, mul-le-mul_right, lt_of_not-le, not-le_of_lt, arith, pow_mono, pow-add, shl_lt}
 use lib.Pow.{pow-lt}
 use lib.Ieee.{size}
 use lib.Ieee.Digits.{size-lt, size-le, size_reaches}
@@ -9,10 +9,6 @@ two_pow a b c h = sym (pow-add 2 a b) ∙ ap (λ (x : ℕ). 2 ^ x) h
 
 pub pow_le_back : (a b : ℕ) → 2 ^ a ≤ 2 ^ b → a ≤ b
 pow_le_back a b h = le_of_suc-le-suc (lt_of_not-le (λ (g : suc b ≤ a). lt_irrefl (2 ^ b) (lt_of_lt_of_le (pow-lt g) h)))
-
--- `1 << n` in a word of w bits.
-pub one_shifted : (w n : ℕ) → n < w → 1 * 2 ^ n % 2 ^ w ≡ 2 ^ n
-one_shifted w n h = ap (λ (x : ℕ). x % 2 ^ w) (one-mul (2 ^ n)) ∙ mod-eq_of_lt (pow-lt h)
 
 pub size_is : (n z : ℕ) → 2 ^ z ≤ n → n < 2 ^ (z + 1) → size n ≡ z + 1
 size_is n z lo hi = both (size n) z (size-le n (z + 1) hi) (lt_of_not-le (λ (g : size n ≤ z). not-le_of_lt (lt_of_lt_of_le (size-lt n) (pow_mono g)) lo))

@@ -1,31 +1,15 @@
--- NaN tests, the sign that rounding gives, and values that rounding keeps.
-use Rattle.std.proofs.Common.{◌≡◌, ℕ, zero, suc, ◌+◌, ◌*◌, ◌^◌, ◌<◌, ◌≤◌, Bool, true, false, cond, not, ◌&&◌, ◌||◌, T, eqb, ltb, pos, sym, refl, subst, true≢false, le_of_eq, le_of_lt, eqb→eq, ltb→lt}
+-- The NaN test, the sign that rounding gives, and values that rounding keeps.
+use Rattle.std.proofs.Common.{◌≡◌, ℕ, zero, suc, ◌+◌, ◌*◌, ◌^◌, ◌<◌, ◌≤◌, Bool, true, false, cond, not, ◌&&◌, ◌||◌, T, eqb, ltb, pos, sym, refl, subst, le_of_eq, le_of_lt, eqb→eq, ltb→lt}
 use mathlib.Core.Bool.{false≢true}
-use lib.Ieee.{Float, nan, inf, fin, Format, prec, emax, low, units, odd, round, ne, div, is_nan}
-use lib.Ieee.Compare.{differs_from_itself}
+use lib.Ieee.{Float, nan, inf, fin, Format, prec, emax, low, units, odd, round, is_nan}
 use lib.Ieee.Fits.{round_is}
 use lib.Ieee.Order.{kept, drop}
-
--- ---- x != x tells a NaN from the rest
-
-pub ne_nan : (x : Float) → ne x x ≡ true → x ≡ nan
-ne_nan x h = differs_from_itself x (subst T (sym h) tt)
-
-pub not_ne : (x : Float) → ne x x ≡ false → T (not (is_nan x))
-unfolding ne is_nan
-not_ne nan h = absurd (true≢false h)
-not_ne (inf s) h = tt
-not_ne (fin s m e) h = tt
 
 pub is_nan_nan : (x : Float) → is_nan x ≡ true → x ≡ nan
 unfolding is_nan
 is_nan_nan nan h = refl
 is_nan_nan (inf s) h = absurd (false≢true h)
 is_nan_nan (fin s m e) h = absurd (false≢true h)
-
-pub zero_by_zero : (f : Format) → div f (fin false 0 (pos 0)) (fin false 0 (pos 0)) ≡ nan
-unfolding div
-zero_by_zero f = refl
 
 -- ---- rounding gives a number or an infinity with the sign asked for
 

@@ -1,14 +1,7 @@
--- Order of natural numbers, and what `compare` and `min` answer.
-use Rattle.std.proofs.Common.{◌≡◌, ℕ, ◌<◌, ◌≤◌, min, Bool, true, false, not, T, leb, ◌⊎◌, refl, subst, inl, inr, arith, eqb→eq, leb→le}
+-- What `compare` answers.
+use Rattle.std.proofs.Common.{◌≡◌, ℕ, ◌<◌, ◌≤◌, not, T, refl, subst, arith, eqb→eq, leb→le}
 use Prim.Native.Nat.{compare, Ordering}
 use lib.Dec.{is_le, compare_is_eq, eqb_refl, nleb→lt}
-
-pub le_or_lt : (a b : ℕ) → (a ≤ b) ⊎ (b < a)
-le_or_lt a b = go (leb a b) (leb→le a b) (nleb→lt a b)
-  where
-    go : (t : Bool) → (T t → a ≤ b) → (T (not t) → b < a) → (a ≤ b) ⊎ (b < a)
-    go true h k = inl (h tt)
-    go false h k = inr (k tt)
 
 pub compare_lt : (a b : ℕ) → a < b → compare a b ≡ Ordering.lt
 compare_lt a b h = go (compare a b) (eqb→eq a b) (nleb→lt a b)
@@ -33,9 +26,3 @@ compare_gt a b h = go (compare a b) (leb→le a b)
     go Ordering.lt g = let k = g tt in absurd (omega arith)
     go Ordering.eq g = let k = g tt in absurd (omega arith)
     go Ordering.gt g = refl
-
-pub min_right : (x y : ℕ) → y ≤ x → min x y ≡ y
-min_right x y h = omega arith
-
-pub min_left : (x y : ℕ) → x ≤ y → min x y ≡ x
-min_left x y h = omega arith

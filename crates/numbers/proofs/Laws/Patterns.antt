@@ -1,13 +1,12 @@
 -- Bit patterns: the pattern of a value, the fields of a binary64, and that a value which fits is the only one of its number and sign.
-use Rattle.std.proofs.Common.{◌≡◌, ℕ, zero, suc, ◌+◌, ◌-◌, ◌*◌, ◌/◌, ◌%◌, ◌^◌, ◌<◌, ◌≤◌, Bool, true, false, cond, not, ◌&&◌, T, eqb, ltb, leb, ℤ, pos, negsuc, sym, refl, ap, ◌∙◌, subst, le_of_eq, lt_of_lt_of_le, lt_of_le_of_lt, mod-lt, mul_assoc, lt_of_mul-lt-mul_right, mul-lt-mul_of_pos_right, zero-mul, mul-one, mul_right_comm, mul-div_cancel, arith, eqb→eq, ltb→lt, leb→le, pow_pos, pow-add, le-ltb, lt-ltb}
+use Rattle.std.proofs.Common.{◌≡◌, ℕ, zero, suc, ◌+◌, ◌-◌, ◌*◌, ◌/◌, ◌%◌, ◌^◌, ◌<◌, ◌≤◌, Bool, true, false, cond, not, ◌&&◌, T, eqb, ltb, leb, ℤ, pos, negsuc, sym, refl, ap, ◌∙◌, subst, le_of_eq, lt_of_lt_of_le, lt_of_le_of_lt, mod-lt, mul_assoc, lt_of_mul-lt-mul_right, mul-lt-mul_of_pos_right, zero-mul, mul-one, mul_right_comm, mul-div_cancel, arith, eqb→eq, ltb→lt, leb→le, pow_pos, pow-add}
 use lib.Dec.{not_T}
-use lib.Ieee.{Float, nan, inf, fin, Format, binary64, prec, emax, low, hid, ones, top, up, down, size, odd, round, fits, of_fields, of_bits, to_bits, is_nan, nan_bits}
+use lib.Ieee.{Float, nan, inf, fin, Format, binary64, prec, emax, low, hid, top, up, down, size, odd, round, fits, of_fields, of_bits, to_bits, is_nan, nan_bits}
 use lib.Ieee.Fits.{down_pos, round-fits, and_l, and_r, eq→eqb}
-use lib.Ieee.Bits.{cond_no, of_bits-to_bits, to_bits-lt, nan_bits_is, nan_bits_above}
+use lib.Ieee.Bits.{cond_no, of_bits-to_bits, to_bits-lt, nan_bits_is}
 use lib.Ieee.Exact.{HasValue, round_exact}
 use lib.Ieee.Scale.{round_same}
 use Rattle.numbers.proofs.Laws.Digits.{two_pow, pow_le_back}
-use Rattle.numbers.proofs.Laws.Floats.{is_nan_nan}
 
 -- ---- the pattern of n smallest values
 pub to_bits_is : (f : Format) (x : Float) (s : Bool) (n : ℕ) → HasValue x s n (2 ^ low f)
@@ -22,14 +21,6 @@ to_bits_is f (fin t m e) s n h =
 pub same-value : (f : Format) (x y : Float) (s : Bool) (n : ℕ) → T (fits f x) → T (fits f y) → HasValue x s n (2 ^ low f) → HasValue y s n (2 ^ low f) → x ≡ y
 same-value f x y s n F G h k =
     sym (of_bits-to_bits f x F) ∙ ap (of_bits f) (to_bits_is f x s n h ∙ sym (to_bits_is f y s n k)) ∙ of_bits-to_bits f y G
-
--- ---- which patterns are a NaN's
-
-pub nan_pattern : (f : Format) (b : ℕ) → ones f * hid f < b % top f → nan ≡ of_bits f b
-nan_pattern f b h = sym (is_nan_nan (of_bits f b) (sym (nan_bits_is f b) ∙ nan_bits_above f b ∙ lt-ltb _ _ h))
-
-pub number_pattern : (f : Format) (b : ℕ) → b % top f ≤ ones f * hid f → T (not (nan_bits f b))
-number_pattern f b h = subst (λ (v : Bool). T (not v)) (sym (nan_bits_above f b ∙ le-ltb _ _ h)) tt
 
 -- ---- the parts of `fits`, for a value that is not zero
 pub fits-parts : (f : Format) (s : Bool) (m : ℕ) (e : ℤ) → T (fits f (fin s (suc m) e))

@@ -1,9 +1,8 @@
-use Rattle.std.proofs.Common.{◌/◌, ◌^◌, ◌<◌, T, sym, ◌∙◌, subst}
-use Rattle.numbers.proofs.Laws.Floats.{zero_by_zero}
+use Rattle.std.proofs.Common.{◌/◌, ◌^◌, ◌<◌, T, sym, subst}
 use Rattle.numbers.proofs.Logarithm.{W, positive_not_nan, ln_same, ln_not_above, ln_infinite, ln_halved, ln_kept, field_lt, m_not_nan, field_cast, exponent-fits, raised_fits}
 use lib.Ieee.{binary64, of_bits, to_bits, fits}
 use Rattle.numbers.proofs.stand_ins.ln_1p.Goals as goal
-use Rattle.numbers.proofs.stand_ins.ln_1p.Goals.{Start, Then-w-3}
+use Rattle.numbers.proofs.stand_ins.ln_1p.Goals.{Start, Then-w-3, else-w-2-via-then-w-2+else-w-3, else-w-2-via-else-w-2}
 
 held : (c : Start) → T (fits binary64 c.args.a)
 held c = subst T (sym c.well_formed.0.1) tt
@@ -33,14 +32,14 @@ pub returns-then-m : goal.returns-then-m
 returns-then-m c =
     ln_halved c.args.a (held (goal.at.returns-then-m c).Start) c.if-w.false c.if-w-2.true c.if-w-3.true c.ln_of.result c.if-m.true c.ln_of.ensures
 
-pub returns-then-w-3 : goal.returns-then-w-3
-returns-then-w-3 c =
-    ln_kept c.args.a (held (goal.at.returns-then-w-3 c).Start) c.if-w.false c.if-w-2.true c.if-w-3.true c.ln_of-then-w-3.result c.if-m.false c.ln_of-then-w-3.ensures
+pub returns-else-m : goal.returns-else-m
+returns-else-m c =
+    ln_kept c.args.a (held (goal.at.returns-else-m c).Start) c.if-w.false c.if-w-2.true c.if-w-3.true c.ln_of-else-m.result c.if-m.false c.ln_of-else-m.ensures
 
-pub returns-then-w-2 : goal.returns-then-w-2
+pub returns-else-w-2 : goal.returns-else-w-2
 unfolding of_bits
-returns-then-w-2 c = zero_by_zero binary64 ∙ ln_infinite c.args.a c.if-w.false c.if-w-2.true c.if-w-3.false
-
-pub returns : goal.returns
-unfolding of_bits
-returns c = zero_by_zero binary64 ∙ ln_not_above c.args.a c.if-w.false c.if-w-2.false
+returns-else-w-2 c =
+    elim c.else-w-2.branch [
+      | else-w-2-via-then-w-2+else-w-3 w ↦ ln_infinite c.args.a c.if-w.false w.if-w-2.true w.if-w-3.false
+      | else-w-2-via-else-w-2 w ↦ ln_not_above c.args.a c.if-w.false w.if-w-2.false
+    ]

@@ -1,21 +1,13 @@
--- `ln_of`: the series by Horner's rule. Invariant: the n terms left, run from the present value, give the whole series; measure: n. A step is
--- `series_step`; the factors after the loop are the definition's (`ln_of_is`).
-use Rattle.std.proofs.Common.{refl, arith, w32, rules}
+-- `ln_of`: the series by Horner's rule. Invariant: the n terms left, run from the present value, give the whole series. A step is `series_step`; the
+-- factors after the loop are the definition's (`ln_of_is`).
+use Rattle.std.proofs.Common.{◌-◌, ◌∙◌, arith, w32, rules}
 use lib.Ieee.{nan_bits}
 use mir.ValLaws.{to_z-of_z}
-use Rattle.numbers.specs.StandIns.{ln_series}
-use Rattle.numbers.proofs.Logarithm.{series_step, series_done, ln_of_is, ratio, first_term}
+use Rattle.numbers.proofs.Logarithm.{series_step, series_done, ln_of_is, ratio}
 use Rattle.numbers.proofs.stand_ins.ln_of.Goals as goal
 
-pub loop-n-init : goal.loop-n-init
-loop-n-init c = (omega arith, refl)
-
-pub loop-n-smaller : goal.loop-n-smaller
-loop-n-smaller c = omega arith
-
 pub loop-n-preserved : goal.loop-n-preserved
-loop-n-preserved c =
-    (omega arith, series_step c.loop-n.n (ratio c.args.m) c.loop-n.t (ln_series 11 (ratio c.args.m) first_term) c.loop-n-test.true c.loop-n.invariant.1)
+loop-n-preserved c = series_step (c.loop-n.n - 1) c.loop-n.n (ratio c.args.m) c.loop-n.t (omega arith) ∙ c.loop-n.invariant
 
 pub float_from_bits-result : goal.float_from_bits-result
 unfolding nan_bits
@@ -24,4 +16,4 @@ float_from_bits-result c = search rules
 pub returns : goal.returns
 returns c =
     ln_of_is c.args.a c.args.w c.args.m c.args.e _ c.loop-n.t (to_z-of_z w32 c.args.e c.ranges.e)
-    (series_done c.loop-n.n (ratio c.args.m) c.loop-n.t (ln_series 11 (ratio c.args.m) first_term) c.loop-n-test.false c.loop-n.invariant.1)
+    (series_done c.loop-n.n (ratio c.args.m) c.loop-n.t (omega arith) ∙ c.loop-n.invariant)

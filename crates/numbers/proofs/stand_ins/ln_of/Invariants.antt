@@ -1,11 +1,7 @@
--- `ln_of`: the series by Horner's rule. Invariant: the n terms left, run from the present value, give the whole series; measure: n. A step is
--- `series_step`; the factors after the loop are the definition's (`ln_of_is`).
-use Rattle.std.proofs.Common.{◌≡◌, ◌≤◌}
+-- `ln_of`: the series by Horner's rule. Invariant: the n terms left, run from the present value, give the whole series.
+use Rattle.std.proofs.Common.{◌≡◌}
 use Rattle.numbers.specs.StandIns.{ln_series}
 use Rattle.numbers.proofs.stand_ins.ln_of.Given as goal
 
 abbrev pub invariant-loop-n : goal.invariant-loop-n
-invariant-loop-n l = (l.n ≤ 11) × (ln_series l.n l.s l.t ≡ ln_series 11 l.s l.initial.t)
-
-abbrev pub decreases-loop-n : goal.decreases-loop-n
-decreases-loop-n l = l.n
+invariant-loop-n l = ln_series l.n l.s l.t ≡ ln_series 11 l.s l.initial.t
