@@ -27,7 +27,7 @@ impl Segment {
             d: 0.0,
             scale: 0.0,
             base: level,
-            left: left,
+            left,
         }
     }
 
@@ -45,13 +45,8 @@ pub fn run_length(left: u32, most: usize) -> usize
     ensures inside { Segments.Inside result left }
 {
     if left == UNTIMED {
-        return most;
+        most
+    } else {
+        most.min(left.max(1) as usize)
     }
-    if most <= left as usize {
-        return most;
-    }
-    if left == 0 {
-        return 1;
-    }
-    left as usize
 }

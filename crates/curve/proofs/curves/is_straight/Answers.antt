@@ -1,18 +1,14 @@
--- `is_straight`: |x| below a positive bound is tested by the sign of x (`abs_negative`, `abs-other`).
+-- `is_straight`: the definition's two tests, with the library's absolute value (`abs_is`).
+use mathlib.Core.Path.{refl}
 use lib.Ieee.{of_bits}
-use lib.IntN.{negsuc}
 use Rattle.curve.specs.Curves.{is_straight}
-use Rattle.curve.proofs.Straight.{or_true, or_false, abs_negative, abs-other}
+use Rattle.curve.proofs.Straight.{abs_is}
 use Rattle.curve.proofs.curves.is_straight.Goals as goal
 
-pub returns-then-r : goal.returns-then-r
+pub returns-then-abs : goal.returns-then-abs
 unfolding is_straight of_bits
-returns-then-r c = simp (c.if-r.true, or_true)
+returns-then-abs c = rw (← abs_is c.args.bent, ← c.abs.ensures.value, c.if-abs.true) refl
 
-pub returns-then-bent : goal.returns-then-bent
+pub returns-else-abs : goal.returns-else-abs
 unfolding is_straight of_bits
-returns-then-bent c = simp (c.if-r.false, or_false, abs_negative c.args.bent c.if-bent.true)
-
-pub returns-else-bent : goal.returns-else-bent
-unfolding is_straight of_bits
-returns-else-bent c = simp (c.if-r.false, or_false, abs-other c.args.bent 1152921504606847 (negsuc 59) c.if-bent.false)
+returns-else-abs c = rw (← abs_is c.args.bent, ← c.abs.ensures.value, c.if-abs.false) refl

@@ -14,22 +14,12 @@ pub returns-then-is_straight : goal.returns-then-is_straight
 unfolding segment straight of_bits
 returns-then-is_straight c =
     let moves = simp (c.widen.ensures, c.widen-wide.ensures) at c.if-span.false in
-    let kind = simp (
-      c.is_straight.ensures,
-      c.narrow-r.ensures,
-      c.exp.ensures,
-      c.at-end.ensures,
-      c.saturating_add.ensures,
-      c.at-start.ensures,
-      c.of_u64-n.ensures,
-    ) at c.if-is_straight.true in
+    let kind = simp (c.is_straight.ensures, c.narrow-r.ensures, c.exp.ensures, c.of_u64-n.ensures) at c.if-is_straight.true in
     simp (
       c.narrow-then-is_straight.ensures,
       c.narrow.ensures,
       moves,
       kind,
-      c.narrow-r.ensures,
-      c.exp.ensures,
       c.at-end.ensures,
       c.saturating_add.ensures,
       c.at-start.ensures,
@@ -42,15 +32,7 @@ pub returns : goal.returns
 unfolding segment bent of_bits
 returns c =
     let moves = simp (c.widen.ensures, c.widen-wide.ensures) at c.if-span.false in
-    let kind = simp (
-      c.is_straight.ensures,
-      c.narrow-r.ensures,
-      c.exp.ensures,
-      c.at-end.ensures,
-      c.saturating_add.ensures,
-      c.at-start.ensures,
-      c.of_u64-n.ensures,
-    ) at c.if-is_straight.false in
+    let kind = simp (c.is_straight.ensures, c.narrow-r.ensures, c.exp.ensures, c.of_u64-n.ensures) at c.if-is_straight.false in
     simp (
       c.narrow-3.ensures,
       c.narrow-2.ensures,
