@@ -120,10 +120,3 @@ module _ {A : Type 0} (z : A) (wide : ℕ) (cell : (ℕ → Float) → ℕ → A
   drawn-none groups G rows f o e h =
       subst (λ (g : ℕ). Drawn z wide cell g (fitting rows (wide * g) (length o)) f o o f) e
       (rw (lt-ltb (length o) (rows * (wide * groups)) h) (drawn_nothing groups f o))
-
-  -- What a caller whose rows fit knows.
-  pub drawn-whole : (groups rows : ℕ) (f : List Float) (o o' : List A) (f' : List Float) → rows * (wide * groups) ≤ length o
-      → Drawn z wide cell groups (fitting rows (wide * groups) (length o)) f o o' f' → Drawn z wide cell groups rows f o o' f'
-  drawn-whole groups rows f o o' f' h D =
-      let e : fitting rows (wide * groups) (length o) ≡ rows = rw (le-ltb (length o) (rows * (wide * groups)) h) in
-      subst (λ (m : ℕ). Drawn z wide cell groups m f o o' f') e D

@@ -5,8 +5,7 @@ use Prim.Native.Nat.{ℕ, ◌+◌, ◌-◌, ◌≤◌, ◌<◌}
 use native.Mathlib.Omega.{arith}
 use borrow.Rule.Slice.PartMut.{mid_of, put_mid}
 use lib.ListN.{length, get_or, take, drop, length-drop, drop_of_length-le, get_or-append}
-use lib.Seq.{take_all, get_or-append-add, get_or-take, get_or-drop, length-take-le}
-use Rattle.filled.specs.Filled.{Filled}
+use lib.Seq.{take_all, get_or-append-add, get_or-take, length-take-le}
 
 module _ {A : Type 0} (z : A) (at : ℕ) (o p' : List A) (h : at ≤ length o) where
   head-long : length (take at o) ≡ at
@@ -17,17 +16,6 @@ module _ {A : Type 0} (z : A) (at : ℕ) (o p' : List A) (h : at ≤ length o) w
 
   pub part_at : (i : ℕ) → get_or (take at o ++ p') (at + i) z ≡ get_or p' i z
   part_at i = subst (λ (k : ℕ). get_or (take at o ++ p') (k + i) z ≡ get_or p' i z) head-long (get_or-append-add (take at o) p' i z)
-
-  -- Its first n filled.
-  module _ (f : ℕ → A) (n : ℕ) (F : Filled z f 0 n (drop at o) p') where
-    pub part_inside : (i : ℕ) → i < n → get_or (take at o ++ p') (at + i) z ≡ f i
-    part_inside i q = part_at i ∙ F.inside i (omega arith) q
-
-    pub part_after : (j : ℕ) → at + n ≤ j → get_or (take at o ++ p') j z ≡ get_or o j z
-    part_after j q =
-        let x : at + (j - at) ≡ j = omega arith in
-        subst (λ (k : ℕ). get_or (take at o ++ p') k z ≡ get_or o k z) x
-        (part_at (j - at) ∙ F.after (j - at) (omega arith) ∙ get_or-drop at o (j - at) z)
 
 module _ {A : Type 0} (at : ℕ) (o : List A) where
   pub rest-lent : mid_of at (length o - at) o ≡ drop at o

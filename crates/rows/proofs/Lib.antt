@@ -1,6 +1,6 @@
 -- Laws about rows and runs, each file on those before it.
 pub mod Lent
-mod FilledPart
+mod FilledFront
 mod LanesMoved
 pub mod RowsDrawn
 mod GroupsDrawn

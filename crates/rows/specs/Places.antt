@@ -15,11 +15,11 @@ module _ {A : Type 0} (wide : ℕ) (cell : (ℕ → Float) → ℕ → A) where
   abbrev pub Shifts : Type 0
   Shifts = (f : ℕ → Float) (q c : ℕ) → cell f (wide * q + c) ≡ cell (λ i. f (16 * q + i)) c
 
-pub float-told : Told 16 float_cell
-float-told n f g e c h = e c h
+pub float_told : Told 16 float_cell
+float_told n f g e c h = e c h
 
-pub float-shifts : Shifts 16 float_cell
-float-shifts f q c = refl
+pub float_shifts : Shifts 16 float_cell
+float_shifts f q c = refl
 
 -- Byte j of a level.
 abbrev byte : ℕ → Float → ℕ
@@ -28,8 +28,8 @@ byte j x = get_or (lowest_first 4 (to_bits binary32 x)) j 0
 pub byte-told : Told 64 byte_cell
 byte-told n f g e c h = ap (byte (c % 4)) (e (c / 4) (omega arith))
 
-pub byte-shifts : Shifts 64 byte_cell
-byte-shifts f q c =
+pub byte_shifts : Shifts 64 byte_cell
+byte_shifts f q c =
     let lane : (64 * q + c) / 4 ≡ 16 * q + c / 4 = omega arith in
     let place : (64 * q + c) % 4 ≡ c % 4 = omega arith in
     ap (λ (i : ℕ). byte ((64 * q + c) % 4) (f i)) lane ∙ ap (λ (j : ℕ). byte j (f (16 * q + c / 4))) place

@@ -25,16 +25,21 @@ fn load(f: &Floats, from: usize) -> [f32; 16]
     ensures { Rows.Loaded from f.now result }
 {
     let mut x = [0.0f32; 16];
-    x.copy_from_slice(&f[from..from + 16]);
+    for i in 0..16 {
+        x[i] = f[from + i];
+    }
     x
 }
 
-// Puts sixteen numbers from place `to` on.
-fn store(f: &mut Floats, to: usize, x: &[f32; 16])
-    requires { to ≤ 48 }
-    ensures { Filled nan (λ j. get_or x.now (j - to) nan) to (to + 16) f.old f.new }
+// Puts `part` from place `to` on. A loop, since `copy_from_slice` asks at each row whether the two
+// overlap, and misses the speed.
+fn put<P: Copy, const N: usize>(out: &mut [P], to: usize, part: &[P; N])
+    requires { to + N ≤ length out.old }
+    ensures { (z : P) → Filled z (λ j. get_or part.now (j - to) z) to (to + N) out.old out.new }
 {
-    f[to..to + 16].copy_from_slice(x);
+    for i in 0..N {
+        out[to + i] = part[i];
+    }
 }
 
 // The lanes' levels.

@@ -5,7 +5,7 @@ ghost use Rattle.rows.specs.Rows as Rows;
 ghost use Rattle.rows.specs.Strides as Strides;
 
 use crate::lanes::places::Place;
-use crate::lanes::{BLOCK, constant, levels_of, load, next_row, store};
+use crate::lanes::{BLOCK, constant, levels_of, load, next_row, put};
 use crate::strides::groups;
 use memory::{Floats, LANES};
 
@@ -28,10 +28,9 @@ fn draw_moving<P: Place<N>, const N: usize>(
     let base = load(f, g + 4 * LANES);
     for k in 0..rows {
         let y = next_row(&mut u, &r, &d, &scale, &base);
-        let to = at + k as usize * stride;
-        out[to..to + N].copy_from_slice(&P::row_of(&y));
+        put(out, at + k as usize * stride, &P::row_of(&y));
     }
-    store(f, g, &u);
+    put(f, g, &u);
 }
 
 // The same of lanes that stay: every row is the first.
@@ -53,8 +52,7 @@ fn draw_still<P: Place<N>, const N: usize>(
     let base = load(f, g + 4 * LANES);
     let row = P::row_of(&levels_of(&u, &scale, &base));
     for k in 0..rows {
-        let to = at + k as usize * stride;
-        out[to..to + N].copy_from_slice(&row);
+        put(out, at + k as usize * stride, &row);
     }
 }
 
@@ -78,7 +76,7 @@ fn draw_group<P: Place<N>, const N: usize>(
 
 // Rows of one group after the other.
 fn draw_block<P: Place<N>, const N: usize>(out: &mut [P], f: &mut Floats, groups: usize, rows: u32)
-    requires { (groups ≤ 4) × (rows * (N * groups) ≤ length out.old) × Rows.Whole f.old }
+    requires { (groups ≤ 4) × (rows * (N * groups) ≤ length out.old) }
     ensures { Rows.Drawn P.blank N P.cell groups rows f.old out.old out.new f.new }
 {
     for q in 0..groups {

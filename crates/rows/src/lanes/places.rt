@@ -6,6 +6,8 @@ ghost use Rattle.std.proofs.Common.{rules};
 ghost use Rattle.rows.specs.Rows as Rows;
 ghost use Rattle.rows.specs.Places as Places;
 
+use crate::lanes::put;
+
 // A place of a row. Sixteen levels take N of them.
 pub trait Place<const N: usize>: Copy {
     // What a reading past the end gives.
@@ -24,6 +26,7 @@ pub trait Place<const N: usize>: Copy {
     // A place of a later group is one of its own sixteen lanes.
     ghost shifts: { Places.Shifts N cell };
 
+    // So the places of four groups can be counted.
     ghost few: { N ≤ 64 };
 }
 
@@ -36,9 +39,9 @@ impl Place<16> for f32 {
         *y
     }
 
-    ghost told = { Places.float-told };
+    ghost told = { Places.float_told };
 
-    ghost shifts = { Places.float-shifts };
+    ghost shifts = { Places.float_shifts };
 
     ghost few = { Prim.search rules };
 }
@@ -52,14 +55,14 @@ impl Place<64> for u8 {
         let mut row = [0; 64];
         for i in 0..16 {
             let bits = numbers::f32_to_bits(y[i]);
-            row[4 * i..4 * i + 4].copy_from_slice(&bits.to_le_bytes());
+            put(&mut row, 4 * i, &bits.to_le_bytes());
         }
         row
     }
 
     ghost told = { Places.byte-told };
 
-    ghost shifts = { Places.byte-shifts };
+    ghost shifts = { Places.byte_shifts };
 
     ghost few = { Prim.search rules };
 }

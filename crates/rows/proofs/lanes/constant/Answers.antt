@@ -16,14 +16,16 @@ returns-then-all-2 c = λ e.
     let a = c.args in
     let U : (i : ℕ) → i < 16 → get_or a.f.now (a.g + i) nan ≡ Constants.zero = λ i h. let k = c.all-then-all-2.ensures e i h in search rules in
     elim c.if-all.branch [
-      then-all w ↦ elim c.if-rows-ge-STILL_ROWS.branch [
-        then-rows-ge-STILL_ROWS v ↦
-          let R : (i : ℕ) → i < 16 → eq (get_or a.f.now (a.g + 68 + i) nan) Constants.one ≡ true =
-          λ i h. let k = w.all-then-all.ensures (sym w.value-is ∙ c.if-all-2.true) i h in search rules
-          in
-          let D : (i : ℕ) → i < 16 → eq (get_or a.f.now (a.g + 136 + i) nan) Constants.zero ≡ true =
-          λ i h. let k = v.all.ensures (sym v.value-is ∙ w.if-all.true) i h in search rules
-          in
-          (still_of_tests a.g a.f.now D R U, omega arith)
-        | else-rows-ge-STILL_ROWS v ↦ absurd (omega (arith, leb-true 4 a.rows (sym v.value-is ∙ w.if-all.true))) ]
-      | else-all w ↦ absurd (true≢false (sym c.if-all-2.true ∙ w.value-is ∙ w.if-all.false)) ]
+      | then-all w ↦ elim c.if-rows-ge-STILL_ROWS.branch [
+        | then-rows-ge-STILL_ROWS v ↦
+            let R : (i : ℕ) → i < 16 → eq (get_or a.f.now (a.g + 68 + i) nan) Constants.one ≡ true =
+            λ i h. let k = w.all-then-all.ensures (sym w.value-is ∙ c.if-all-2.true) i h in search rules
+            in
+            let D : (i : ℕ) → i < 16 → eq (get_or a.f.now (a.g + 136 + i) nan) Constants.zero ≡ true =
+            λ i h. let k = v.all.ensures (sym v.value-is ∙ w.if-all.true) i h in search rules
+            in
+            (still_of_tests a.g a.f.now D R U, omega arith)
+        | else-rows-ge-STILL_ROWS v ↦ absurd (omega (arith, leb-true 4 a.rows (sym v.value-is ∙ w.if-all.true)))
+      ]
+      | else-all w ↦ absurd (true≢false (sym c.if-all-2.true ∙ w.value-is ∙ w.if-all.false))
+    ]

@@ -1,12 +1,12 @@
 -- `count_down`: a run is taken off what each segment has left. Invariant: it is taken off the voices so far, and the rest are as before. A step is
 -- `filled_more`: the count that it reads is the old one.
-use Rattle.std.proofs.Common.{◌≡◌, ◌∙◌, ap, subst, ◌++◌, ℕ, take, get_or, get_or-take, length-take, min, arith}
+use Rattle.std.proofs.Common.{◌≡◌, ◌∙◌, ap, subst, ◌++◌, ℕ, take, get_or, get_or-take, length-take, arith}
 use borrow.Rule.Slice.PartMut.{post_of}
 use Rattle.filled.specs.Filled.{Filled}
 use Rattle.filled.proofs.Filling.{filled_none, filled_more}
-use Rattle.memory.specs.Memory.{left_at, max_voices}
+use Rattle.memory.specs.Memory.{left_at}
 use Rattle.rows.specs.Runs.{left_after}
-use Rattle.rows.proofs.FilledPart.{filled_front}
+use Rattle.rows.proofs.FilledFront.{filled_front}
 use Rattle.rows.proofs.runs.count_down.Goals as goal
 
 pub loop-left-init : goal.loop-left-init

@@ -20,11 +20,12 @@ loop-v-preserved c =
     let a = c.args in
     let l = c.loop-v in
     let more : 0 < c.count-end.result - l.v = omega (arith, c.loop-v-test.true) in
-    let less : c.count-end.result - l.v - 1 ≡ c.count-end.result - (l.v + 1) = omega arith in
-    (omega arith,
+    let less : c.count-end.result - l.v - 1 ≡ c.count-end.result - (l.v + 1) = omega arith in (
+      omega arith,
       l.invariant.1
-      ∙ next_on (c.count-end.result - l.v) a.c.now l.v more c.if-c-v-eq0.false
-      ∙ ap (λ (m : ℕ). Runs.next_ended m a.c.now (l.v + 1)) less)
+          ∙ next_on (c.count-end.result - l.v) a.c.now l.v more c.if-c-v-eq0.false
+          ∙ ap (λ (m : ℕ). Runs.next_ended m a.c.now (l.v + 1)) less,
+    )
 
 pub returns : goal.returns
 returns c =

@@ -1,7 +1,7 @@
 -- `draw` meets its contract. The loop's invariant: the first rows, `done` of them, are drawn.
-use Rattle.std.proofs.Common.{◌≡◌, refl, ◌∙◌, ℕ, ◌+◌, ◌*◌, ◌≤◌, length, length-take, length-drop, arith}
+use Rattle.std.proofs.Common.{refl, ◌+◌, ◌*◌, ◌≤◌, length, length-take, length-drop, arith}
 use Rattle.rows.proofs.RowsDrawn.{run_fits}
-use Rattle.rows.proofs.BlocksDrawn.{block-rows, drawn_nothing, drawn_on, drawn-fitting, drawn-none}
+use Rattle.rows.proofs.BlocksDrawn.{block-rows, drawn_nothing, drawn_on}
 use Rattle.rows.proofs.lanes.drawing.draw.Given.{Over}
 use Rattle.rows.proofs.lanes.drawing.draw.Goals as goal
 use Rattle.rows.proofs.lanes.drawing.draw.Goals.{After-min-n}
@@ -24,13 +24,14 @@ loop-done-init g c = (omega arith, drawn_nothing g.P.Place.blank g.row.N g.P.Pla
 pub draw_block-requires : goal.draw_block-requires
 draw_block-requires g c =
     let h = fits g (goal.at.draw_block-requires g c).After-min-n in
-    (omega arith, omega (arith, length-take {A = g.row.P.Denot}, length-drop {A = g.row.P.Denot}), omega arith)
+    (omega arith, omega (arith, length-take {A = g.row.P.Denot}, length-drop {A = g.row.P.Denot}))
 
 pub loop-done-preserved : goal.loop-done-preserved
 loop-done-preserved g c =
     let a = c.args in
     let l = c.loop-done in
-    let h = fits g (goal.at.loop-done-preserved g c).After-min-n in
-    (omega arith,
+    let h = fits g (goal.at.loop-done-preserved g c).After-min-n in (
+      omega arith,
       drawn_on g.P.Place.blank g.row.N g.P.Place.cell g.met.P.Place.told c.groups-groups.result l.done c.min-n.result _ (omega arith) a.f.now l.f _ a.out.now
-          l.out _ refl (omega arith) l.invariant.1 c.draw_block.ensures)
+          l.out _ refl (omega arith) l.invariant.1 c.draw_block.ensures,
+    )

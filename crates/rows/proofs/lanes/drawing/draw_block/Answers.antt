@@ -1,5 +1,5 @@
 -- `draw_block` meets its contract. The loop's invariant: the first q groups are drawn.
-use Rattle.std.proofs.Common.{◌≡◌, ◌∙◌, subst, ℕ, ◌*◌, ◌≤◌, arith}
+use Rattle.std.proofs.Common.{◌≡◌, subst, ℕ, ◌*◌, arith}
 use Rattle.rows.proofs.GroupsDrawn.{GroupsDrawn, groups_none, groups_more, groups_all}
 use Rattle.rows.proofs.lanes.drawing.draw_block.Goals as goal
 

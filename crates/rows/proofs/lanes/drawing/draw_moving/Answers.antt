@@ -1,10 +1,9 @@
 -- `draw_moving` meets its contract. The loop's invariant: the first k rows are laid, and u is the lanes' after them.
-use Rattle.std.proofs.Common.{◌≡◌, refl, ap, ◌∙◌, List, ℕ, ◌+◌, ◌*◌, ◌≤◌, length, get_or, arith, rules}
+use Rattle.std.proofs.Common.{◌≡◌, refl, ◌∙◌, ◌+◌, ◌*◌, get_or, arith}
 use Rattle.std.specs.Float.{nan}
 use Rattle.rows.specs.Rows.{drawn_at}
-use Rattle.rows.proofs.FilledPart.{filled_part}
 use Rattle.rows.proofs.LanesMoved.{row-levels, row_moved}
-use Rattle.rows.proofs.RowsDrawn.{row_room, laid_none, laid_more}
+use Rattle.rows.proofs.RowsDrawn.{laid_none, laid_more}
 use Rattle.rows.proofs.GroupsDrawn.{told-one, group_moved}
 use Rattle.rows.proofs.lanes.drawing.draw_moving.Goals as goal
 
@@ -19,13 +18,11 @@ loop-k-preserved g c =
     let q = c.next_row-y in
     let f = a.f.now in
     let to = a.at + l.k * a.stride in
-    let room : to + g.row.N ≤ length l.out = omega (arith, row_room g.row.N a.stride a.at a.rows (length a.out.now) a.g f l.k c.requires c.loop-k-test.true) in
     let Y = row-levels a.g f l.k l.u l.invariant.1 _ _ q.result c.load-scale.ensures c.load-base.ensures q.ensures.levels in (
       laid_more p.blank g.row.N p.cell a.stride a.at (λ k i. drawn_at k f (a.g + i)) l.k a.out.now l.out _ _ to c.requires.inside refl l.invariant.0
-          (λ i h. ap (λ (x : List g.row.P.Denot). get_or x i p.blank) c.copy_from_slice.ensures.after
-          ∙ c.row_of.ensures i h
+          (λ i h. c.row_of.ensures i h
           ∙ told-one g.row.N p.cell g.met.P.Place.told (λ i. get_or q.result i nan) (λ i. drawn_at l.k f (a.g + i)) Y i h)
-          (filled_part p.blank to (to + g.row.N) l.out _ (omega arith) room (search rules)),
+          (c.put.ensures p.blank),
       row_moved a.g f l.k l.u l.invariant.1 _ _ _ c.load-r.ensures c.load-d.ensures q.ensures.moved,
     )
 
@@ -34,4 +31,4 @@ returns g c =
     let a = c.args in
     let l = c.loop-k in
     let e : l.k ≡ a.rows = omega arith in
-    group_moved g.P.Place.blank g.row.N g.P.Place.cell a.stride a.at a.g a.rows a.f.now a.out.now l.out l.k l.u _ e l.invariant.0 l.invariant.1 c.store.ensures
+    group_moved g.P.Place.blank g.row.N g.P.Place.cell a.stride a.at a.g a.rows a.f.now a.out.now l.out l.k l.u _ e l.invariant.0 l.invariant.1 (c.put-2.ensures nan)

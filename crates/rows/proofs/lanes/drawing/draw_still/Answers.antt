@@ -1,22 +1,14 @@
 -- `draw_still` meets its contract. The loop's invariant: the first k rows are laid. Each is the first, since the lanes stay.
-use Rattle.std.proofs.Common.{◌≡◌, refl, ap, ◌∙◌, subst, List, ℕ, ◌+◌, ◌*◌, ◌<◌, ◌≤◌, length, get_or, arith, rules}
+use Rattle.std.proofs.Common.{◌≡◌, refl, ◌∙◌, subst, ℕ, ◌+◌, ◌*◌, ◌<◌, get_or, arith}
 use Rattle.std.specs.Float.{nan}
 use Rattle.rows.specs.Rows.{drawn_at, Laid}
-use Rattle.rows.proofs.FilledPart.{filled_part}
 use Rattle.rows.proofs.LanesMoved.{row-levels, still-level}
-use Rattle.rows.proofs.RowsDrawn.{row_room, laid_none, laid_more}
+use Rattle.rows.proofs.RowsDrawn.{laid_none, laid_more}
 use Rattle.rows.proofs.GroupsDrawn.{told-one}
 use Rattle.rows.proofs.lanes.drawing.draw_still.Goals as goal
 
 pub loop-k-init : goal.loop-k-init
 loop-k-init g c = laid_none g.P.Place.blank g.row.N g.P.Place.cell _ _ _ _
-
-pub offset_bounds-out-to : goal.offset_bounds-out-to
-offset_bounds-out-to g c =
-    let a = c.args in
-    let room = row_room g.row.N a.stride a.at a.rows (length a.out.now) a.g a.f.now c.loop-k.k c.requires.fits c.loop-k-test.true in
-    let within : a.at + c.loop-k.k * a.stride ≤ length c.loop-k.out = omega arith in
-    search rules
 
 pub loop-k-preserved : goal.loop-k-preserved
 loop-k-preserved g c =
@@ -25,16 +17,14 @@ loop-k-preserved g c =
     let p = g.P.Place in
     let f = a.f.now in
     let to = a.at + l.k * a.stride in
-    let room : to + g.row.N ≤ length l.out = omega (arith, row_room g.row.N a.stride a.at a.rows (length a.out.now) a.g f l.k c.requires.fits c.loop-k-test.true) in
     let Y : (i : ℕ) → i < 16 → get_or c.levels_of.result i nan ≡ drawn_at l.k f (a.g + i) =
     λ i h. row-levels a.g f 0 c.load-u.result c.load-u.ensures.lane _ _ c.levels_of.result c.load-scale.ensures c.load-base.ensures c.levels_of.ensures i h
     ∙ still-level a.g f c.requires.still l.k i h
     in
     laid_more p.blank g.row.N p.cell a.stride a.at (λ k i. drawn_at k f (a.g + i)) l.k a.out.now l.out _ _ to c.requires.fits.inside refl l.invariant
-    (λ i h. ap (λ (x : List g.row.P.Denot). get_or x i p.blank) c.copy_from_slice.ensures.after
-    ∙ c.row_of-row.ensures i h
+    (λ i h. c.row_of-row.ensures i h
     ∙ told-one g.row.N p.cell g.met.P.Place.told (λ i. get_or c.levels_of.result i nan) (λ i. drawn_at l.k f (a.g + i)) Y i h)
-    (filled_part p.blank to (to + g.row.N) l.out _ (omega arith) room (search rules))
+    (c.put.ensures p.blank)
 
 pub returns : goal.returns
 returns g c =
