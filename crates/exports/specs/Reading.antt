@@ -1,14 +1,16 @@
 -- Readings as numbers, and their sums.
-use Rattle.std.specs.Prelude.{ℕ, zero, suc, ◌+◌, ◌%◌, ◌^◌, Bool, true, false, cond, ◌==◌, to_bits}
+use Rattle.std.specs.Prelude.{ℕ, zero, suc, ◌+◌, ◌%◌, ◌^◌, Bool, true, false, cond, ◌==◌, to_bits, Result, Ok, Err}
 use Rattle.std.specs.Float.{binary32}
 use Rattle.settings.specs.declared.stages.Stage.{Stage}
 use Rattle.settings.specs.declared.stages.Stage.TheVariants.{Idle, Delay, Attack, Hold, Decay, Sustain, Release}
+use Rattle.settings.specs.declared.refusals.Refusal.{Refusal}
+use Rattle.settings.specs.Refusals as Refusals
 use Rattle.bank.specs.Banks.{Bank}
 use Rattle.bank.specs.Calls.{Call, Query}
 use Rattle.bank.specs.Replies.{Reply, reply}
 use Rattle.exports.specs.Take.{next}
 
-unfoldable pub stage_number : Stage → ℕ
+abbrev pub stage_number : Stage → ℕ
 stage_number Idle = 0
 stage_number Delay = 1
 stage_number Attack = 2
@@ -17,12 +19,12 @@ stage_number Decay = 4
 stage_number Sustain = 5
 stage_number Release = 6
 
-unfoldable pub idle_number : Bool → ℕ
+abbrev pub idle_number : Bool → ℕ
 idle_number true = 1
 idle_number false = 0
 
 -- A reading's reply: of settings the bits of their decay, of a level its bits, of a refused one the refusal.
-unfoldable pub number : Reply → ℕ
+abbrev pub number : Reply → ℕ
 number (Reply.refused n) = n
 number Reply.done = 0
 number (Reply.wrote l) = 0
@@ -31,6 +33,11 @@ number (Reply.stage s) = stage_number s
 number (Reply.level x) = to_bits binary32 x
 number (Reply.is_idle x) = idle_number x
 number (Reply.count n) = n
+
+-- A reading's number, or the refusal's.
+abbrev pub of_answer : Result ℕ Refusal → ℕ
+of_answer (Ok n) = n
+of_answer (Err r) = Refusals.number r
 
 -- The reading of a kind.
 unfoldable pub query : ℕ → ℕ → Query

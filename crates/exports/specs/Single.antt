@@ -6,8 +6,8 @@ use Rattle.timing.specs.Clock as Clock
 use Rattle.settings.specs.declared.settings.EnvelopeParams.{EnvelopeParams}
 use Rattle.settings.specs.declared.settings.Trigger.TheVariants.{New, Retrigger, Legato}
 use Rattle.envelope.specs.declared.envelopes.Envelope.{Envelope}
-use Rattle.envelope.specs.declared.envelopes.Answer.{Answer}
 use Rattle.envelope.specs.Envelopes as Envelopes
+use Rattle.envelope.specs.Envelopes.{Answer}
 use Rattle.exports.specs.Note as Note
 use Rattle.exports.specs.Reading.{stage_number, idle_number, more}
 

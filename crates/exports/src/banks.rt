@@ -1,7 +1,7 @@
 // A bank, called and read over and over: what its calls, its readings and its blocks cost is measured by
-// this.
+// this. Kinds, and what is asked for, are plain numbers: C passes them.
 ghost use Rattle.std.specs.Prelude.{◌≡◌, ◌-◌};
-ghost use Rattle.memory.specs.Memory as Memory;
+ghost use Rattle.settings.specs.Refusals as Refusals;
 ghost use Rattle.bank.specs.Banks as Banks;
 ghost use Rattle.bank.specs.Calls as Calls;
 ghost use Rattle.bank.specs.Calls.{Call};
@@ -11,132 +11,96 @@ ghost use Rattle.exports.specs.Reading as Reading;
 ghost use Rattle.exports.specs.Take as Take;
 
 use crate::asked;
-use bank::{FramesReading, IdleReading, LevelReading, ParamsReading, StageReading};
-use memory::{BENDS, Bends, CODES, COUNTS, Codes, Counts, FLOATS, Floats, timing_of};
-use settings::{EnvelopeParams, Trigger};
+use bank::Bank;
+use settings::{EnvelopeParams, Refusal, Trigger, number_of};
 use timing::Timing;
 
 // Calls of a kind on all voices: 8 the settings `params`, 9 other settings and then these, 10 the timing
-// that they have, else half of every time and then that timing.
-fn call_all(
-    f: &mut Floats,
-    k: &mut Bends,
-    n: &mut Counts,
-    c: &mut Codes,
-    kind: u32,
-    params: EnvelopeParams,
-)
-    ensures { Banks.bank_of (Memory.arrays f.new k.new n.new c.new) ≡ Take.called_all kind params (Banks.bank_of (Memory.arrays f.old k.old n.old c.old)) }
+// that they have, else half of every time and then that timing. Answers the last one's refusal.
+#[tactic(auto, using(crate::proofs::Told::timing_of), unfolding(crate::specs::Take::called_all))]
+fn call_all(bank: &mut Bank, kind: u32, params: EnvelopeParams) -> Result<(), Refusal>
+    ensures { Banks.bank_of bank.new.arrays ≡ Take.called_all kind params (Banks.bank_of bank.old.arrays) }
 {
+    let timing = bank.arrays.timing();
     match kind {
-        8 => {
-            bank::set_all_params(f, k, n, c, params);
-        }
+        8 => bank.set_all_params(params),
         9 => {
-            bank::set_all_params(f, k, n, c, asked::other(params));
-            bank::set_all_params(f, k, n, c, params);
+            let _ = bank.set_all_params(asked::other(params));
+            bank.set_all_params(params)
         }
-        10 => {
-            bank::set_timing(f, k, n, c, timing_of(k));
-        }
+        10 => bank.set_timing(timing),
         _ => {
-            let timing = timing_of(k);
-            bank::set_timing(f, k, n, c, asked::halved(timing));
-            bank::set_timing(f, k, n, c, timing);
+            let _ = bank.set_timing(asked::halved(timing));
+            bank.set_timing(timing)
         }
     }
 }
 
 // Calls of a kind on a voice: 0 a new note, 1 a new note and its release, 2 the settings `params`,
 // 3 other settings and then these, 4 a reset, 5 a retrigger, 6 a legato note, 7 a join of `from`; else
-// on all voices.
+// on all voices. Answers the last one's refusal.
+#[tactic(auto, unfolding(crate::specs::Take::called))]
 fn call(
-    f: &mut Floats,
-    k: &mut Bends,
-    n: &mut Counts,
-    c: &mut Codes,
+    bank: &mut Bank,
     kind: u32,
     voice: usize,
     from: usize,
     params: EnvelopeParams,
-)
-    ensures { Banks.bank_of (Memory.arrays f.new k.new n.new c.new) ≡ Take.called kind voice from params (Banks.bank_of (Memory.arrays f.old k.old n.old c.old)) }
+) -> Result<(), Refusal>
+    ensures { Banks.bank_of bank.new.arrays ≡ Take.called kind voice from params (Banks.bank_of bank.old.arrays) }
 {
     match kind {
-        0 => {
-            bank::trigger(f, k, n, c, voice, Trigger::New);
-        }
+        0 => bank.trigger(voice, Trigger::New),
         1 => {
-            bank::trigger(f, k, n, c, voice, Trigger::New);
-            bank::release(f, k, n, c, voice);
+            let _ = bank.trigger(voice, Trigger::New);
+            bank.release(voice)
         }
-        2 => {
-            bank::set_params(f, k, n, c, voice, params);
-        }
+        2 => bank.set_params(voice, params),
         3 => {
-            bank::set_params(f, k, n, c, voice, asked::other(params));
-            bank::set_params(f, k, n, c, voice, params);
+            let _ = bank.set_params(voice, asked::other(params));
+            bank.set_params(voice, params)
         }
-        4 => {
-            bank::reset(f, k, n, c, voice);
-        }
-        5 => {
-            bank::trigger(f, k, n, c, voice, Trigger::Retrigger);
-        }
-        6 => {
-            bank::trigger(f, k, n, c, voice, Trigger::Legato);
-        }
-        7 => {
-            bank::join(f, k, n, c, voice, from);
-        }
-        _ => call_all(f, k, n, c, kind, params),
+        4 => bank.reset(voice),
+        5 => bank.trigger(voice, Trigger::Retrigger),
+        6 => bank.trigger(voice, Trigger::Legato),
+        7 => bank.join(voice, from),
+        _ => call_all(bank, kind, params),
     }
 }
 
-// `times` of these, on one voice up to `last` after the other.
-fn repeat(
-    f: &mut Floats,
-    k: &mut Bends,
-    n: &mut Counts,
-    c: &mut Codes,
-    kind: u32,
-    times: u32,
-    last: usize,
-    params: EnvelopeParams,
-)
-    ensures { Banks.bank_of (Memory.arrays f.new k.new n.new c.new) ≡ Take.repeated kind times last 0 params (Banks.bank_of (Memory.arrays f.old k.old n.old c.old)) }
+// `times` of these, on one of so many voices after the other.
+#[tactic(auto, using(crate::proofs::Turns::calls_turn))]
+fn repeat(bank: &mut Bank, kind: u32, times: u32, voices: usize, params: EnvelopeParams)
+    ensures { Banks.bank_of bank.new.arrays ≡ Take.repeated kind times (voices - 1) 0 params (Banks.bank_of bank.old.arrays) }
 {
+    let last = voices.saturating_sub(1);
     let mut voice = 0;
-    let mut rest = times;
-    while rest > 0 {
+    for _ in 0..times {
         let next = asked::next(last, voice);
-        call(f, k, n, c, kind, voice, next, params);
+        let _ = call(bank, kind, voice, next, params);
         voice = next;
-        rest -= 1;
     }
 }
 
 // Opens a bank, and makes new notes on its voices in turn. Answers the opening's refusal.
 fn strike(
-    f: &mut Floats,
-    k: &mut Bends,
-    n: &mut Counts,
-    c: &mut Codes,
+    bank: &mut Bank,
     voices: usize,
     params: EnvelopeParams,
     timing: Timing,
     notes: u32,
-) -> u32
-    ensures refusal { result ≡ (Banks.new (Calls.opening voices params timing)).refusal }
-    ensures bank { Banks.bank_of (Memory.arrays f.new k.new n.new c.new) ≡ Take.repeated 0 notes (voices - 1) 0 params (Banks.new (Calls.opening voices params timing)).bank }
+) -> Result<(), Refusal>
+    ensures refusal { Refusals.number_of result ≡ (Banks.new (Calls.opening voices params timing)).refusal }
+    ensures bank { Banks.bank_of bank.new.arrays ≡ Take.repeated 0 notes (voices - 1) 0 params (Banks.new (Calls.opening voices params timing)).bank }
 {
-    let refusal = bank::open(f, k, n, c, voices, params, timing);
-    repeat(f, k, n, c, 0, notes, asked::last(voices), params);
-    refusal
+    let answer = bank.open(voices, params, timing);
+    repeat(bank, 0, notes, voices, params);
+    answer
 }
 
 // Makes new notes on the voices of a fresh bank in turn, then `calls` calls of a kind on them, and then
 // writes `blocks` blocks one after the other into `out`. Answers the fresh call's refusal.
+#[tactic(auto, using(crate::proofs::Turns::blocks_turn))]
 #[unsafe(no_mangle)]
 pub extern "C" fn worfelli_take(
     sample_rate: f64,
@@ -153,87 +117,37 @@ pub extern "C" fn worfelli_take(
     ensures refusal { result ≡ (Take.struck sample_rate attack decay sustain voices notes).refusal }
     ensures written { out.new ≡ Take.blocks blocks (Take.repeated kind calls (voices - 1) 0 (Note.settings attack decay sustain) (Take.struck sample_rate attack decay sustain voices notes).bank) out.old }
 {
-    let mut f = [0.0f32; FLOATS];
-    let mut k = [0.0f64; BENDS];
-    let mut n = [0u64; COUNTS];
-    let mut c = [0u32; CODES];
+    let mut bank = Bank::EMPTY;
     let params = asked::settings(attack, decay, sustain);
-    let clock = Timing::new(sample_rate);
-    let refusal = strike(&mut f, &mut k, &mut n, &mut c, voices, params, clock, notes);
-    let last = asked::last(voices);
-    repeat(&mut f, &mut k, &mut n, &mut c, kind, calls, last, params);
-    let mut rest = blocks;
-    while rest > 0 {
-        bank::process(&mut f, &mut k, &mut n, &mut c, out);
-        rest -= 1;
+    let answer = strike(&mut bank, voices, params, Timing::new(sample_rate), notes);
+    repeat(&mut bank, kind, calls, voices, params);
+    for _ in 0..blocks {
+        let _ = bank.process(out);
     }
-    refusal
-}
-
-fn params_number(x: ParamsReading) -> u64
-    ensures { result ≡ Reading.number (Replies.of_params x) }
-{
-    match x {
-        ParamsReading::Params(params) => numbers::f32_to_bits(params.decay) as u64,
-        ParamsReading::NoSuchVoice => 2,
-    }
-}
-
-fn stage_number(x: StageReading) -> u64
-    ensures { result ≡ Reading.number (Replies.of_stage x) }
-{
-    match x {
-        StageReading::Stage(stage) => asked::stage_number(stage),
-        StageReading::NoSuchVoice => 2,
-    }
-}
-
-fn level_number(x: LevelReading) -> u64
-    ensures { result ≡ Reading.number (Replies.of_level x) }
-{
-    match x {
-        LevelReading::Level(level) => numbers::f32_to_bits(level) as u64,
-        LevelReading::NoSuchVoice => 2,
-    }
-}
-
-fn idle_number(x: IdleReading) -> u64
-    ensures { result ≡ Reading.number (Replies.of_idle x) }
-{
-    match x {
-        IdleReading::Idle(idle) => asked::idle_number(idle),
-        IdleReading::NoSuchVoice => 2,
-    }
-}
-
-fn frames_number(x: FramesReading) -> u64
-    ensures { result ≡ Reading.number (Replies.of_frames x) }
-{
-    match x {
-        FramesReading::Frames(frames) => frames,
-        FramesReading::NoSuchVoice => 2,
-    }
+    number_of(answer)
 }
 
 // A reading of a kind as a number: 0 the bits of the settings' decay, 1 a stage's number, 2 the bits of a
 // level, 3 whether it is idle, 4 tail, 5 lead, 6 the voices, else the stride.
-fn read(f: &Floats, k: &Bends, n: &Counts, c: &Codes, kind: u32, voice: usize) -> u64
-    ensures { result ≡ Reading.number (Replies.reply (Banks.bank_of (Memory.arrays f.now k.now n.now c.now)) (Call.ask (Reading.query kind voice))) }
+#[tactic(auto, using(crate::proofs::Told::as_numbers), unfolding(crate::specs::Reading::query, bank::specs::Replies::of_reading))]
+fn read(bank: &Bank, kind: u32, voice: usize) -> Result<u64, Refusal>
+    ensures { Reading.of_answer result ≡ Reading.number (Replies.reply (Banks.bank_of bank.now.arrays) (Call.ask (Reading.query kind voice))) }
 {
     match kind {
-        0 => params_number(bank::params(f, k, n, c, voice)),
-        1 => stage_number(bank::stage(f, k, n, c, voice)),
-        2 => level_number(bank::level(f, k, n, c, voice)),
-        3 => idle_number(bank::is_idle(f, k, n, c, voice)),
-        4 => frames_number(bank::tail(f, k, n, c, voice)),
-        5 => frames_number(bank::lead(f, k, n, c, voice)),
-        6 => bank::voices(f, k, n, c) as u64,
-        _ => bank::stride(f, k, n, c) as u64,
+        0 => Ok(numbers::f32_to_bits(bank.params(voice)?.decay) as u64),
+        1 => Ok(bank.stage(voice)? as u64),
+        2 => Ok(numbers::f32_to_bits(bank.level(voice)?) as u64),
+        3 => Ok(bank.is_idle(voice)? as u64),
+        4 => bank.tail(voice),
+        5 => bank.lead(voice),
+        6 => Ok(bank.voices() as u64),
+        _ => Ok(bank.stride() as u64),
     }
 }
 
 // Makes new notes on the voices of a fresh bank in turn, and answers the sum of `times` readings of a
-// kind on them in turn, modulo 2^64.
+// kind on them in turn, modulo 2^64; a refused one counts as its refusal's number.
+#[tactic(auto, using(crate::proofs::Turns::readings_turn))]
 #[unsafe(no_mangle)]
 pub extern "C" fn worfelli_bank_readings(
     sample_rate: f64,
@@ -247,21 +161,16 @@ pub extern "C" fn worfelli_bank_readings(
 ) -> u64
     ensures { result ≡ Reading.of_bank kind times (voices - 1) 0 (Take.struck sample_rate attack decay sustain voices notes).bank 0 }
 {
-    let mut f = [0.0f32; FLOATS];
-    let mut k = [0.0f64; BENDS];
-    let mut n = [0u64; COUNTS];
-    let mut c = [0u32; CODES];
+    let mut bank = Bank::EMPTY;
     let params = asked::settings(attack, decay, sustain);
-    let clock = Timing::new(sample_rate);
-    strike(&mut f, &mut k, &mut n, &mut c, voices, params, clock, notes);
-    let last = asked::last(voices);
-    let mut sum = 0;
+    let _ = strike(&mut bank, voices, params, Timing::new(sample_rate), notes);
+    let last = voices.saturating_sub(1);
     let mut voice = 0;
-    let mut rest = times;
-    while rest > 0 {
-        sum = std::num::wrapping_add_u64(sum, read(&f, &k, &n, &c, kind, voice));
+    let mut sum = 0u64;
+    for _ in 0..times {
+        let number = read(&bank, kind, voice).unwrap_or_else(|refusal| refusal.number() as u64);
+        sum = sum.wrapping_add(number);
         voice = asked::next(last, voice);
-        rest -= 1;
     }
     sum
 }

@@ -20,8 +20,7 @@ ghost use Rattle.envelope.specs.Envelopes as Envelopes;
 ghost use Rattle.exports.specs.Clock as Clock;
 ghost use Rattle.exports.specs.Note as Note;
 
-use envelope::Envelope;
-use settings::{EnvelopeParams, Trigger};
+use settings::number_of;
 use timing::{TimeUnit, Timing};
 
 #[unsafe(no_mangle)]
@@ -130,6 +129,7 @@ pub extern "C" fn worfelli_powi(r: f64, len: u32) -> f64
 }
 
 // `Timing::samples`, with the unit as a flag: true for beats, false for milliseconds.
+#[tactic(auto, unfolding(crate::specs::Clock::unit))]
 #[unsafe(no_mangle)]
 pub extern "C" fn worfelli_samples(
     beats: bool,
@@ -141,18 +141,20 @@ pub extern "C" fn worfelli_samples(
     ensures { result ≡ Samples.samples (Clock.timing sample_rate tempo scale) value (Clock.unit beats) }
 {
     let timing = Timing {
-        sample_rate: sample_rate,
-        tempo: tempo,
-        scale: scale,
+        sample_rate,
+        tempo,
+        scale,
     };
-    if beats {
-        return timing.samples(value, TimeUnit::Tempo);
-    }
-    timing.samples(value, TimeUnit::Milliseconds)
+    let unit = if beats {
+        TimeUnit::Tempo
+    } else {
+        TimeUnit::Milliseconds
+    };
+    timing.samples(value, unit)
 }
 
 // The first levels of a new note on a fresh envelope of AMP with this attack, decay and sustain.
-// Answers the fresh call's refusal; refused, the note is played on the envelope beside it.
+// Answers the fresh call's refusal; refused, the note is played on the blank envelope.
 #[unsafe(no_mangle)]
 pub extern "C" fn worfelli_note(
     sample_rate: f64,
@@ -164,12 +166,7 @@ pub extern "C" fn worfelli_note(
     ensures refusal { result ≡ (Envelopes.fresh (Note.settings attack decay sustain) (Timings.new sample_rate)).refusal }
     ensures written { out.new ≡ Envelopes.levels (length out.old) (Envelopes.trigger New (Envelopes.fresh (Note.settings attack decay sustain) (Timings.new sample_rate)).envelope) }
 {
-    let mut params = EnvelopeParams::AMP;
-    params.attack = attack;
-    params.decay = decay;
-    params.sustain = sustain;
-    let answer = Envelope::fresh(params, Timing::new(sample_rate));
-    let struck = answer.envelope.after_trigger(Trigger::New);
-    struck.after_process(out);
-    answer.refusal
+    let answer = envelopes::fresh(sample_rate, attack, decay, sustain);
+    envelopes::struck(answer).after_process(out);
+    number_of(answer.map(|_| ()))
 }

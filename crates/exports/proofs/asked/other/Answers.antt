@@ -1,7 +1,0 @@
-use Rattle.std.proofs.Common.{refl}
-use lib.Ieee.{of_bits}
-use Rattle.exports.proofs.asked.other.Goals as goal
-
-pub returns : goal.returns
-unfolding of_bits
-returns c = refl
