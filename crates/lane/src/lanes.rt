@@ -1,7 +1,6 @@
 // One envelope's plan: what a stage is by the settings, entering a stage, and what follows when a
 // segment has ended.
-ghost use Rattle.std.specs.Prelude.{◌≡◌, min};
-ghost use Rattle.curve.specs.Curves as Curves;
+ghost use Rattle.std.specs.Prelude.{◌≡◌};
 ghost use Rattle.lane.specs.Planning as Planning;
 
 use curve::{MAX_SEGMENT, Segment, UNTIMED};
@@ -11,7 +10,7 @@ use timing::Timing;
 // A stage by its settings: its count, the level it goes to, and its bend. A plan keeps the one that it
 // was made for, so that `replan` can tell whether other settings or another timing make a difference
 // to the present stage, and leave it as it is if not.
-#[derive(Clone, Copy)]
+#[derive(Clone, Copy, PartialEq)]
 pub struct Spec {
     pub total: u64,
     pub to: f32,
@@ -64,57 +63,28 @@ pub struct Entered {
 pub(crate) fn spec_of(p: EnvelopeParams, stage: Stage, timing: Timing, level: f32) -> Spec
     ensures { result ≡ Planning.spec p stage timing level }
 {
-    let unit = p.unit;
-    match stage {
-        Stage::Idle => Spec {
-            total: 0,
-            to: numbers::unit(p.end),
-            k: 0.0,
-        },
-        Stage::Delay => Spec {
-            total: timing.samples(p.delay, unit),
-            to: level,
-            k: 0.0,
-        },
-        Stage::Attack => Spec {
-            total: timing.samples(p.attack, unit),
-            to: 1.0,
-            k: curve::bend(p.attack_curve),
-        },
-        Stage::Hold => Spec {
-            total: timing.samples(p.hold, unit),
-            to: 1.0,
-            k: 0.0,
-        },
-        Stage::Decay => Spec {
-            total: timing.samples(p.decay, unit),
-            to: numbers::unit(p.sustain),
-            k: curve::bend(p.decay_curve),
-        },
-        Stage::Sustain => Spec {
-            total: 0,
-            to: numbers::unit(p.sustain),
-            k: 0.0,
-        },
-        Stage::Release => Spec {
-            total: timing.samples(p.release, unit),
-            to: numbers::unit(p.end),
-            k: curve::bend(p.release_curve),
-        },
-    }
-}
-
-// Whether two stages have the same length, target and bend.
-pub(crate) fn same_spec(a: Spec, b: Spec) -> bool
-    ensures { result ≡ Planning.same a b }
-{
-    if a.total == b.total {
-        if a.to == b.to {
-            return a.k == b.k;
-        }
-        return false;
-    }
-    false
+    let (total, to, k) = match stage {
+        Stage::Idle => (0, numbers::unit(p.end), 0.0),
+        Stage::Delay => (timing.samples(p.delay, p.unit), level, 0.0),
+        Stage::Attack => (
+            timing.samples(p.attack, p.unit),
+            1.0,
+            curve::bend(p.attack_curve),
+        ),
+        Stage::Hold => (timing.samples(p.hold, p.unit), 1.0, 0.0),
+        Stage::Decay => (
+            timing.samples(p.decay, p.unit),
+            numbers::unit(p.sustain),
+            curve::bend(p.decay_curve),
+        ),
+        Stage::Sustain => (0, numbers::unit(p.sustain), 0.0),
+        Stage::Release => (
+            timing.samples(p.release, p.unit),
+            numbers::unit(p.end),
+            curve::bend(p.release_curve),
+        ),
+    };
+    Spec { total, to, k }
 }
 
 // An attack from above the start level leaves out the part of its curve that is below: it begins with
@@ -125,13 +95,7 @@ fn join_attack(p: EnvelopeParams, level: f32, spec: Spec) -> Joined
     ensures { result ≡ Planning.join_attack p level spec }
 {
     let start = numbers::unit(p.start);
-    if start >= 1.0 {
-        return Joined {
-            from: level,
-            pos: 0,
-        };
-    }
-    if level < start {
+    if start >= 1.0 || level < start {
         return Joined {
             from: level,
             pos: 0,
@@ -155,28 +119,8 @@ pub(crate) fn join(p: EnvelopeParams, stage: Stage, level: f32, spec: Spec) -> J
     ensures { result ≡ Planning.join p stage level spec }
 {
     match stage {
-        Stage::Idle => Joined {
-            from: level,
-            pos: 0,
-        },
-        Stage::Delay => Joined {
-            from: level,
-            pos: 0,
-        },
         Stage::Attack => join_attack(p, level, spec),
-        Stage::Hold => Joined {
-            from: level,
-            pos: 0,
-        },
-        Stage::Decay => Joined {
-            from: level,
-            pos: 0,
-        },
-        Stage::Sustain => Joined {
-            from: level,
-            pos: 0,
-        },
-        Stage::Release => Joined {
+        _ => Joined {
             from: level,
             pos: 0,
         },
@@ -193,8 +137,8 @@ fn find(p: EnvelopeParams, timing: Timing, first: Stage, first_level: f32) -> En
         let spec = spec_of(p, stage, timing, level);
         if stage.holds() {
             break Entered {
-                stage: stage,
-                spec: spec,
+                stage,
+                spec,
                 joined: Joined {
                     from: spec.to,
                     pos: 0,
@@ -204,9 +148,9 @@ fn find(p: EnvelopeParams, timing: Timing, first: Stage, first_level: f32) -> En
         let joined = join(p, stage, level, spec);
         if joined.pos < spec.total {
             break Entered {
-                stage: stage,
-                spec: spec,
-                joined: joined,
+                stage,
+                spec,
+                joined,
             };
         }
         level = spec.to;
@@ -222,7 +166,7 @@ impl Lane {
         let end = numbers::unit(params.end);
         Voice {
             lane: Lane {
-                params: params,
+                params,
                 stage: Stage::Idle,
                 spec: Spec {
                     total: 0,
@@ -244,8 +188,7 @@ impl Lane {
     pub(crate) fn enter(self, timing: Timing, stage: Stage, level: f32) -> Voice
         ensures { result ≡ Planning.enter self timing stage level }
     {
-        let params = self.params;
-        let found = find(params, timing, stage, level);
+        let found = find(self.params, timing, stage, level);
         let stage = found.stage;
         let spec = found.spec;
         if stage.holds() {
@@ -258,18 +201,13 @@ impl Lane {
     pub(crate) fn hold(self, stage: Stage, spec: Spec) -> Voice
         ensures { result ≡ Planning.hold self stage spec }
     {
-        let params = self.params;
         Voice {
             lane: Lane {
-                params: params,
-                stage: stage,
-                spec: spec,
+                stage,
+                spec,
                 from: spec.to,
                 to: spec.to,
-                k: self.k,
-                curve_total: self.curve_total,
-                pos: self.pos,
-                seg_len: self.seg_len,
+                ..self
             },
             seg: Segment::constant(spec.to, UNTIMED),
         }
@@ -280,17 +218,15 @@ impl Lane {
     pub(crate) fn begin(self, stage: Stage, spec: Spec, from: f32, total: u64, pos: u64) -> Voice
         ensures { result ≡ Planning.begin self stage spec from total pos }
     {
-        let params = self.params;
         let lane = Lane {
-            params: params,
-            stage: stage,
-            spec: spec,
-            from: from,
+            stage,
+            spec,
+            from,
             to: spec.to,
             k: spec.k,
             curve_total: total,
-            pos: pos,
-            seg_len: self.seg_len,
+            pos,
+            ..self
         };
         lane.start_segment()
     }
@@ -301,11 +237,12 @@ impl Lane {
         ensures { result ≡ Planning.start_segment self }
     {
         let rest = numbers::saturating_sub(self.curve_total, self.pos);
-        let len = segment_length(rest);
-        let mut lane = self;
-        lane.seg_len = len;
+        let len = rest.min(MAX_SEGMENT as u64) as u32;
         Voice {
-            lane: lane,
+            lane: Lane {
+                seg_len: len,
+                ..self
+            },
             seg: curve::segment(self.from, self.to, self.k, self.curve_total, self.pos, len),
         }
     }
@@ -315,23 +252,11 @@ impl Lane {
     pub fn advance(self, timing: Timing) -> Voice
         ensures { result ≡ Planning.advance timing self }
     {
-        let mut lane = self;
-        lane.pos = numbers::saturating_add(self.pos, self.seg_len as u64);
-        if lane.pos < lane.curve_total {
+        let pos = numbers::saturating_add(self.pos, self.seg_len as u64);
+        let lane = Lane { pos, ..self };
+        if pos < lane.curve_total {
             return lane.start_segment();
         }
-        let stage = lane.stage;
-        lane.enter(timing, stage.next(), lane.to)
-    }
-}
-
-// A curve with `rest` samples left goes on with a segment of this many.
-fn segment_length(rest: u64) -> u32
-    ensures { result ≡ min rest Curves.max_segment }
-{
-    if rest < 16384 {
-        rest as u32
-    } else {
-        MAX_SEGMENT
+        lane.enter(timing, lane.stage.next(), lane.to)
     }
 }

@@ -5,17 +5,18 @@ ghost use Rattle.lane.specs.Readings as Readings;
 ghost use Rattle.settings.specs.Stages as Stages;
 ghost use Rattle.lane.specs.Voices as Voices;
 
-use crate::lanes::{Lane, Voice, join, same_spec, spec_of};
+use crate::lanes::{Lane, Voice, join, spec_of};
 use curve::{Segment, UNTIMED};
 use settings::{EnvelopeParams, Stage, StealRestart, Trigger};
 use timing::Timing;
 
-// Samples of the present stage that have passed.
-fn elapsed(total: u64, curve_total: u64, pos: u64, seg_len: u32, left: u32) -> u64
-    ensures { result ≡ held (held ((total - curve_total) + pos) + (seg_len - left)) }
+// Samples of the present stage that have passed, where its segment has `left` left.
+fn elapsed(lane: Lane, left: u32) -> u64
+    ensures { result ≡ held (held ((lane.spec.total - lane.curve_total) + lane.pos) + (lane.seg_len - left)) }
 {
-    let before = numbers::saturating_add(numbers::saturating_sub(total, curve_total), pos);
-    numbers::saturating_add(before, numbers::saturating_sub(seg_len as u64, left as u64))
+    let before = numbers::saturating_sub(lane.spec.total, lane.curve_total);
+    let drawn = numbers::saturating_sub(lane.seg_len as u64, left as u64);
+    numbers::saturating_add(numbers::saturating_add(before, lane.pos), drawn)
 }
 
 // How long the stages before Sustain last, from `first` on, that begins at `first_level`.
@@ -44,26 +45,15 @@ fn stages_last(p: EnvelopeParams, timing: Timing, first: Stage, first_level: f32
 fn replanned(lane: Lane, seg: Segment, timing: Timing) -> Voice
     ensures { result ≡ Voices.replan timing (record { lane = lane; seg = seg }) }
 {
-    let params = lane.params;
     let stage = lane.stage;
-    let old = lane.spec;
-    let spec = spec_of(params, stage, timing, lane.to);
-    if same_spec(spec, old) {
-        return Voice {
-            lane: lane,
-            seg: seg,
-        };
+    let spec = spec_of(lane.params, stage, timing, lane.to);
+    if spec == lane.spec {
+        return Voice { lane, seg };
     }
     if stage.holds() {
         return lane.hold(stage, spec);
     }
-    let elapsed = elapsed(
-        old.total,
-        lane.curve_total,
-        lane.pos,
-        lane.seg_len,
-        seg.left,
-    );
+    let elapsed = elapsed(lane, seg.left);
     if elapsed >= spec.total {
         return lane.enter(timing, stage.next(), spec.to);
     }
@@ -75,18 +65,9 @@ impl Voice {
     fn leaves_alone(self, trigger: Trigger) -> bool
         ensures { result ≡ Voices.leaves_alone trigger self }
     {
-        let lane = self.lane;
-        let params = lane.params;
-        let stage = lane.stage;
         match trigger {
-            Trigger::New => false,
-            Trigger::Retrigger => false,
-            Trigger::Legato => {
-                if stage.is_idle() {
-                    return false;
-                }
-                !params.legato_inverted
-            }
+            Trigger::New | Trigger::Retrigger => false,
+            Trigger::Legato => !self.lane.stage.is_idle() && !self.lane.params.legato_inverted,
         }
     }
 
@@ -94,16 +75,13 @@ impl Voice {
     fn restart_level(self) -> f32
         ensures { result ≡ Voices.restart_level self }
     {
-        let lane = self.lane;
-        let params = lane.params;
-        let stage = lane.stage;
-        if stage.is_idle() {
-            return numbers::unit(params.start);
+        let start = numbers::unit(self.lane.params.start);
+        if self.lane.stage.is_idle() {
+            return start;
         }
-        let restart = params.steal_restart;
-        match restart {
+        match self.lane.params.steal_restart {
             StealRestart::CurrentLevel => self.seg.level(),
-            StealRestart::StartLevel => numbers::unit(params.start),
+            StealRestart::StartLevel => start,
         }
     }
 
@@ -111,12 +89,9 @@ impl Voice {
     fn note_level(self, trigger: Trigger) -> f32
         ensures { result ≡ Voices.note_level trigger self }
     {
-        let lane = self.lane;
-        let params = lane.params;
         match trigger {
-            Trigger::New => numbers::unit(params.start),
-            Trigger::Retrigger => self.restart_level(),
-            Trigger::Legato => self.restart_level(),
+            Trigger::New => numbers::unit(self.lane.params.start),
+            Trigger::Retrigger | Trigger::Legato => self.restart_level(),
         }
     }
 
@@ -135,12 +110,10 @@ impl Voice {
     pub fn release(self, timing: Timing) -> Voice
         ensures { result ≡ Voices.release timing self }
     {
-        let lane = self.lane;
-        let stage = lane.stage;
-        if stage.is_released() {
+        if self.lane.stage.is_released() {
             return self;
         }
-        lane.enter(timing, Stage::Release, self.seg.level())
+        self.lane.enter(timing, Stage::Release, self.seg.level())
     }
 
     // Idle with no release before it; Idle does not ask for the level that is handed to `enter`.
@@ -161,8 +134,10 @@ impl Voice {
     pub fn set_params(self, timing: Timing, params: EnvelopeParams) -> Voice
         ensures { result ≡ Voices.set_params timing params self }
     {
-        let mut lane = self.lane;
-        lane.params = params;
+        let lane = Lane {
+            params,
+            ..self.lane
+        };
         replanned(lane, self.seg, timing)
     }
 
@@ -171,10 +146,12 @@ impl Voice {
         ensures { result ≡ record { lane = self.lane; seg = Voices.stepped self.seg left } }
     {
         let u = self.seg.u * self.seg.r + self.seg.d;
-        let mut voice = self;
-        voice.seg.u = u;
-        voice.seg.left = left;
-        voice
+        let seg = Segment {
+            u,
+            left,
+            ..self.seg
+        };
+        Voice { seg, ..self }
     }
 
     // One frame passes.
@@ -195,14 +172,12 @@ impl Voice {
     pub fn tail(self, timing: Timing) -> u64
         ensures { result ≡ Readings.tail timing self }
     {
-        let lane = self.lane;
-        let params = lane.params;
-        let stage = lane.stage;
-        if stage.is_idle() {
-            return 0;
+        let params = self.lane.params;
+        if self.lane.stage.is_idle() {
+            0
+        } else {
+            timing.samples(params.release, params.unit)
         }
-        let unit = params.unit;
-        timing.samples(params.release, unit)
     }
 
     // The frames until Sustain, were only frames to follow; 0 in Idle, Sustain and Release.
@@ -210,14 +185,15 @@ impl Voice {
         ensures { result ≡ Readings.lead timing self }
     {
         let lane = self.lane;
-        let params = lane.params;
-        let stage = lane.stage;
-        if !stage.leads_up() {
+        if !lane.stage.leads_up() {
             return 0;
         }
         let drawn = numbers::saturating_sub(lane.curve_total, lane.pos);
         let rest = numbers::saturating_sub(drawn, lane.seg_len as u64);
         let present = numbers::saturating_add(rest, self.seg.left as u64);
-        numbers::saturating_add(present, stages_last(params, timing, stage.next(), lane.to))
+        numbers::saturating_add(
+            present,
+            stages_last(lane.params, timing, lane.stage.next(), lane.to),
+        )
     }
 }

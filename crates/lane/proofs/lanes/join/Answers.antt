@@ -1,31 +1,26 @@
--- `join`: only the attack's arm has a callee; the others are their clauses of the definition as they are.
+-- `join`: the attack's arm has a callee; the other stages have the definition's one clause.
+use mathlib.Core.Path.{◌≡◌, refl}
+use lib.Ieee.{Float}
+use Rattle.settings.specs.declared.settings.EnvelopeParams.{EnvelopeParams}
+use Rattle.settings.specs.declared.stages.Stage.{Stage}
+use Rattle.settings.specs.declared.stages.Stage.TheVariants.{Idle, Delay, Attack, Hold, Decay, Sustain, Release}
+use Rattle.lane.specs.declared.lanes.Spec.{Spec}
 use Rattle.lane.specs.Planning.{join}
 use Rattle.lane.proofs.lanes.join.Goals as goal
 
-pub returns-in-Idle : goal.returns-in-Idle
+other : (p : EnvelopeParams) (s : Stage) (level : Float) (sp : Spec) → (s ≡ Attack → ⊥) → record { from = level; pos = 0 } ≡ join p s level sp
 unfolding join
-returns-in-Idle c = simp c.in-Idle.is
-
-pub returns-in-Delay : goal.returns-in-Delay
-unfolding join
-returns-in-Delay c = simp c.in-Delay.is
+other p Attack level sp h = absurd (h refl)
+other p Idle level sp h = refl
+other p Delay level sp h = refl
+other p Hold level sp h = refl
+other p Decay level sp h = refl
+other p Sustain level sp h = refl
+other p Release level sp h = refl
 
 pub returns-in-Attack : goal.returns-in-Attack
 unfolding join
 returns-in-Attack c = simp (c.join_attack.ensures, c.in-Attack.is)
 
-pub returns-in-Hold : goal.returns-in-Hold
-unfolding join
-returns-in-Hold c = simp c.in-Hold.is
-
-pub returns-in-Decay : goal.returns-in-Decay
-unfolding join
-returns-in-Decay c = simp c.in-Decay.is
-
-pub returns-in-Sustain : goal.returns-in-Sustain
-unfolding join
-returns-in-Sustain c = simp c.in-Sustain.is
-
-pub returns-in-Release : goal.returns-in-Release
-unfolding join
-returns-in-Release c = simp c.in-Release.is
+pub returns-in_default : goal.returns-in_default
+returns-in_default c = other _ _ _ _ c.in_default.not-Attack

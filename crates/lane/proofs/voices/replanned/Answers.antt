@@ -1,10 +1,22 @@
+use mathlib.Core.Bool.{◌&&◌}
+use mathlib.Core.Path.{◌≡◌, sym, ◌∙◌}
+use lib.Dec.{eqb}
+use Rattle.std.proofs.Math.Bool.{and_assoc}
 use borrow.Author.Tests.{le-leb, lt-leb}
+use lib.Ieee.{eq}
+use Rattle.lane.specs.declared.lanes.Spec.{Spec}
+use Rattle.lane.specs.Planning.{same}
 use Rattle.lane.specs.Voices.{replan, elapsed}
 use Rattle.lane.proofs.voices.replanned.Goals as goal
 
-pub returns-then-same_spec : goal.returns-then-same_spec
+-- The derived `==` is the definition's.
+equal : (a b : Spec) → eqb a.total b.total && (eq a.to b.to && eq a.k b.k) ≡ same a b
+unfolding same
+equal a b = sym (and_assoc (eqb a.total b.total) (eq a.to b.to) (eq a.k b.k))
+
+pub returns-then-eq : goal.returns-then-eq
 unfolding replan
-returns-then-same_spec c = simp (simp (c.same_spec.ensures, c.spec_of-spec.ensures) at c.if-same_spec.true)
+returns-then-eq c = simp (simp ((c.eq.ensures ∙ equal c.spec_of-spec.result c.args.lane.spec), c.spec_of-spec.ensures) at c.if-eq.true)
 
 pub returns-then-holds : goal.returns-then-holds
 unfolding replan
@@ -12,7 +24,7 @@ returns-then-holds c =
     simp (
       c.hold.ensures,
       c.spec_of-spec.ensures,
-      simp (c.same_spec.ensures, c.spec_of-spec.ensures) at c.if-same_spec.false,
+      simp ((c.eq.ensures ∙ equal c.spec_of-spec.result c.args.lane.spec), c.spec_of-spec.ensures) at c.if-eq.false,
       simp c.holds.ensures at c.if-holds.true,
     )
 
@@ -23,7 +35,7 @@ returns-then-elapsed-spec c =
       c.enter.ensures,
       c.next.ensures,
       c.spec_of-spec.ensures,
-      simp (c.same_spec.ensures, c.spec_of-spec.ensures) at c.if-same_spec.false,
+      simp ((c.eq.ensures ∙ equal c.spec_of-spec.result c.args.lane.spec), c.spec_of-spec.ensures) at c.if-eq.false,
       simp c.holds.ensures at c.if-holds.false,
       le-leb _ _ (simp (c.elapsed-elapsed.ensures, c.spec_of-spec.ensures) at c.if-elapsed-spec.true),
     )
@@ -37,9 +49,9 @@ returns c =
       c.spec_of-spec.ensures,
       c.elapsed-elapsed.ensures,
       simp (
-        c.same_spec.ensures,
+        (c.eq.ensures ∙ equal c.spec_of-spec.result c.args.lane.spec),
         c.spec_of-spec.ensures,
-      ) at c.if-same_spec.false,
+      ) at c.if-eq.false,
       simp c.holds.ensures at c.if-holds.false,
       lt-leb _ _ (simp (
         c.elapsed-elapsed.ensures,

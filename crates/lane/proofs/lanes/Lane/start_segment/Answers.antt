@@ -4,4 +4,4 @@ use Rattle.lane.proofs.lanes.Lane.start_segment.Goals as goal
 
 pub returns : goal.returns
 unfolding start_segment
-returns c = simp (c.segment.ensures, c.segment_length-len.ensures, c.saturating_sub-rest.ensures)
+returns c = simp (c.segment.ensures, c.min-len.ensures, c.saturating_sub-rest.ensures)

@@ -4,7 +4,7 @@ use Rattle.lane.proofs.lanes.Voice.restart_level.Goals as goal
 
 pub returns-then-is_idle : goal.returns-then-is_idle
 unfolding restart_level
-returns-then-is_idle c = simp (simp c.is_idle.ensures at c.if-is_idle.true, c.unit.ensures)
+returns-then-is_idle c = simp (simp c.is_idle.ensures at c.if-is_idle.true, c.unit-start.ensures)
 
 pub returns-in-CurrentLevel : goal.returns-in-CurrentLevel
 unfolding restart_level restarted
@@ -14,4 +14,4 @@ returns-in-CurrentLevel c =
 pub returns-in-StartLevel : goal.returns-in-StartLevel
 unfolding restart_level restarted
 returns-in-StartLevel c =
-    simp (simp c.is_idle.ensures at c.if-is_idle.false, c.in-StartLevel.is, c.unit-in-StartLevel.ensures)
+    simp (simp c.is_idle.ensures at c.if-is_idle.false, c.in-StartLevel.is, c.unit-start.ensures)

@@ -6,6 +6,6 @@ pub returns-then-is_idle : goal.returns-then-is_idle
 unfolding tail
 returns-then-is_idle c = simp (simp c.is_idle.ensures at c.if-is_idle.true)
 
-pub returns : goal.returns
+pub returns-else-is_idle : goal.returns-else-is_idle
 unfolding tail
-returns c = simp (c.samples.ensures, simp c.is_idle.ensures at c.if-is_idle.false)
+returns-else-is_idle c = simp (c.samples.ensures, simp c.is_idle.ensures at c.if-is_idle.false)
