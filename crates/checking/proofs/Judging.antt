@@ -12,11 +12,10 @@ use Rattle.bank.specs.Calls.{opening_refusal}
 use Rattle.rows.specs.Strides.{stride_of}
 use Rattle.settings.specs.Refusals as Refusals
 use Rattle.events.specs.declared.Event.{Event}
-use Rattle.checking.specs.declared.Checked.{Checked}
 use Rattle.bank.proofs.Accepted.{if_refused}
 use Rattle.bank.proofs.Frames.{stride_holds}
 use Rattle.checking.specs.Deeds.{Deed, opens, calls, deed, own_refusal, known_after, frames_of}
-use Rattle.checking.specs.Checks.{refused_at, passed, judged}
+use Rattle.checking.specs.Checks.{Checked, refused_at, passed, judged}
 
 abbrev pub own : Checked → Event → ℕ
 own c e = own_refusal c.known (deed c.known e)

@@ -1,5 +1,5 @@
 -- Record after record: the check's loop, and what holds of a list that passed.
-use mathlib.Core.Path.{◌≡◌, refl, sym, ap, ◌∙◌}
+use mathlib.Core.Path.{◌≡◌, refl, sym, ap, ◌∙◌, subst}
 use mathlib.Core.Bool.{Bool, true, false, cond}
 use mathlib.Core.List.{List}
 use Prim.Native.Nat.{ℕ, zero, suc, ◌+◌, ◌*◌, ◌-◌, ◌/◌, ◌<◌, ◌≤◌}
@@ -11,13 +11,13 @@ use lib.ListN.{length}
 use Rattle.bank.specs.Calls.{if_accepted}
 use Rattle.rows.specs.Strides.{stride_of}
 use Rattle.events.specs.declared.Event.{Event}
-use Rattle.events.specs.declared.Reading.{Reading}
 use Rattle.events.specs.Format as Format
+use Rattle.events.specs.Format.{Reading}
 use Rattle.events.proofs.Records.{read_next, read-refused}
 use Rattle.memory.specs.Memory.{max_voices}
 use Rattle.bank.proofs.Frames.{stride_holds}
-use Rattle.checking.specs.declared.Checked.{Checked}
-use Rattle.checking.specs.Checks.{start, refused_at, passed, judged, met, checked_from, checked}
+use Rattle.checking.specs.declared.Passed.{Passed}
+use Rattle.checking.specs.Checks.{Checked, so_far, start, refused_at, passed, judged, met, checked_from, checked}
 use Rattle.bank.proofs.Accepted.{if_refused, if_accepted_lem}
 use Rattle.checking.proofs.Judging.{own, judged-passed, passed_few}
 
@@ -56,6 +56,26 @@ unfolding met
 met-held room c (Reading.Record e next) H = judged-held room c e next H
 met-held room c (Reading.Refused n) H = held-refused room c n H
 
+-- ---- a record that passed
+
+-- A record that is accepted: no number of its own, and room for its frames.
+pub record Accepted (room : ℕ) (c : Checked) (e : Event) (next : ℕ) : Type 0 where
+  pub own : own c e ≡ 0
+  pub fits : (passed c e next).frames * stride_of (passed c e next).known.voices ≤ room
+  pub is : judged room c e next ≡ passed c e next
+
+pub judged-accepted : (room : ℕ) (c : Checked) (e : Event) (next : ℕ) → (judged room c e next).refusal ≡ 0 → Accepted room c e next
+unfolding judged
+judged-accepted room c e next z = go (own c e) refl (ltb room ((passed c e next).frames * stride_of (passed c e next).known.voices)) refl z
+  where
+    go : (n : ℕ) → own c e ≡ n → (t : Bool) → ltb room ((passed c e next).frames * stride_of (passed c e next).known.voices) ≡ t
+        → (if_accepted n (cond t (refused_at 11 c) (passed c e next)) (refused_at n c)).refusal ≡ 0 → Accepted room c e next
+    go zero p false q z =
+        let h = ltb-false room _ q in
+        record { own = p; fits = h; is = sym (judged-passed room c e next p h) }
+    go zero p true q z = absurd (omega arith)
+    go (suc n) p t q z = absurd (omega arith)
+
 -- ---- the loop
 
 module _ (l : List ℕ) (room : ℕ) (c : Checked) where
@@ -78,6 +98,53 @@ module _ (l : List ℕ) (room : ℕ) (c : Checked) where
       let e : n ≡ suc n - 1 = omega arith in
       if_accepted_lem c.refusal _ c z ∙ rw (lt-ltb c.at (length l) h) (ap (λ (n : ℕ). checked_from n l room (met room c (Format.read l c.at))) e)
 
+-- A record that is accepted is past the one before it: a place where none can be read is refused.
+past : (l : List ℕ) (room : ℕ) (c : Checked) (r : Reading) → Format.read l c.at ≡ r → (met room c r).refusal ≡ 0
+    → (c.at < (met room c r).at) × ((met room c r).at ≤ length l)
+unfolding met
+past l room c (Reading.Refused m) e y = absurd (omega (arith, y, read-refused l c.at m e))
+past l room c (Reading.Record v next) e y =
+    let k : (judged room c v next).at ≡ next = ap (λ (x : Checked). x.at) (judged-accepted room c v next y).is in
+    let b = read_next l c.at v next e in
+    (omega (arith, k, b), omega (arith, k, b))
+
+-- From q on as many records as there are turns for come to what all from p on come to.
+pub record Left (l : List ℕ) (room : ℕ) (p q : Passed) : Type 0 where
+  pub held : Held room (so_far q)
+  pub turns : ℕ
+  pub enough : length l ≤ q.at + turns
+  pub same : checked_from turns l room (so_far q) ≡ checked_from (length l) l room (so_far p)
+
+pub left_all : (l : List ℕ) (room : ℕ) (p : Passed) → Held room (so_far p) → Left l room p p
+left_all l room p H = record { held = H; turns = length l; enough = omega arith; same = refl }
+
+module _ (l : List ℕ) (room : ℕ) (p q : Passed) (L : Left l room p q) where
+  abbrev next : Checked
+  next = met room (so_far q) (Format.read l q.at)
+
+  one_turn : q.at < length l → checked_from (L.turns - 1) l room next ≡ checked_from (length l) l room (so_far p)
+  one_turn h = sym (one_more l room (so_far q) L.turns (omega (arith, h, L.enough)) refl h) ∙ L.same
+
+  pub at-past : (q' : Passed) → so_far q' ≡ next → q.at < q'.at
+  at-past q' e =
+      let b = past l room (so_far q) (Format.read l q.at) refl (sym (ap (λ (c : Checked). c.refusal) e)) in
+      omega (arith, b, ap (λ (c : Checked). c.at) e)
+
+  pub left_one : (q' : Passed) → q.at < length l → so_far q' ≡ next → Left l room p q'
+  left_one q' h e =
+      record {
+        held = subst (Held room) (sym e) (met-held room (so_far q) (Format.read l q.at) L.held);
+        turns = L.turns - 1;
+        enough = omega (arith, h, L.enough, at-past q' e);
+        same = ap (checked_from (L.turns - 1) l room) e ∙ one_turn h;
+      }
+
+  pub left_refused : (c : Checked) → q.at < length l → (c.refusal ≡ 0 → ⊥) → c ≡ next → c ≡ checked_from (length l) l room (so_far p)
+  left_refused c h d e = sym (stopped l room c (L.turns - 1) d) ∙ ap (checked_from (L.turns - 1) l room) e ∙ one_turn h
+
+  pub left_none : length l ≤ q.at → so_far q ≡ checked_from (length l) l room (so_far p)
+  left_none h = sym (ended l room (so_far q) L.turns h) ∙ L.same
+
 pub none : (l : List ℕ) (bytes : ℕ) → length l ≡ 0 → refused_at 9 start ≡ checked l bytes
 unfolding checked
 none l bytes z = rw (eq-eqb (length l) 0 z)
@@ -97,24 +164,6 @@ still (suc n) l room c z = go c.refusal refl z
         → (if_accepted k (cond (ltb c.at (length l)) (checked_from n l room (met room c (Format.read l c.at))) c) c).refusal ≡ 0 → c.refusal ≡ 0
     go zero e z = e
     go (suc k) e z = z
-
--- A record that is accepted: no number of its own, and room for its frames.
-pub record Accepted (room : ℕ) (c : Checked) (e : Event) (next : ℕ) : Type 0 where
-  pub own : own c e ≡ 0
-  pub fits : (passed c e next).frames * stride_of (passed c e next).known.voices ≤ room
-  pub is : judged room c e next ≡ passed c e next
-
-pub judged-accepted : (room : ℕ) (c : Checked) (e : Event) (next : ℕ) → (judged room c e next).refusal ≡ 0 → Accepted room c e next
-unfolding judged
-judged-accepted room c e next z = go (own c e) refl (ltb room ((passed c e next).frames * stride_of (passed c e next).known.voices)) refl z
-  where
-    go : (n : ℕ) → own c e ≡ n → (t : Bool) → ltb room ((passed c e next).frames * stride_of (passed c e next).known.voices) ≡ t
-        → (if_accepted n (cond t (refused_at 11 c) (passed c e next)) (refused_at n c)).refusal ≡ 0 → Accepted room c e next
-    go zero p false q z =
-        let h = ltb-false room _ q in
-        record { own = p; fits = h; is = sym (judged-passed room c e next p h) }
-    go zero p true q z = absurd (omega arith)
-    go (suc n) p t q z = absurd (omega arith)
 
 -- ---- the whole list
 
@@ -138,20 +187,11 @@ checked-held l bytes = go (eqb (length l) 0)
 
 -- ---- a list that is accepted was read to its last byte
 
--- Each record is past the one before it, and a place where none can be read is refused.
-module _ (l : List ℕ) (room : ℕ) (n : ℕ) (c : Checked) (z : (checked_from (suc n) l room c).refusal ≡ 0) where
-  pub next_check : c.at < length l → checked_from (suc n) l room c ≡ checked_from n l room (met room c (Format.read l c.at))
-  next_check q =
-      if_accepted_lem c.refusal _ c (still (suc n) l room c z)
-      ∙ ap (λ (t : Bool). cond t (checked_from n l room (met room c (Format.read l c.at))) c) (lt-ltb c.at (length l) q)
-
-  past : (r : Reading) → Format.read l c.at ≡ r → (met room c r).refusal ≡ 0 → (c.at < (met room c r).at) × ((met room c r).at ≤ length l)
-  unfolding met
-  past (Reading.Refused m) e y = absurd (omega (arith, y, read-refused l c.at m e))
-  past (Reading.Record v next) e y =
-      let k : (judged room c v next).at ≡ next = ap (λ (x : Checked). x.at) (judged-accepted room c v next y).is in
-      let b = read_next l c.at v next e in
-      (omega (arith, k, b), omega (arith, k, b))
+pub next_check : (l : List ℕ) (room n : ℕ) (c : Checked) → (checked_from (suc n) l room c).refusal ≡ 0 → c.at < length l
+    → checked_from (suc n) l room c ≡ checked_from n l room (met room c (Format.read l c.at))
+next_check l room n c z q =
+    if_accepted_lem c.refusal _ c (still (suc n) l room c z)
+    ∙ ap (λ (t : Bool). cond t (checked_from n l room (met room c (Format.read l c.at))) c) (lt-ltb c.at (length l) q)
 
 to_the_end : (n : ℕ) (l : List ℕ) (room : ℕ) (c : Checked) → length l ≤ c.at + n → c.at ≤ length l → (checked_from n l room c).refusal ≡ 0
     → (checked_from n l room c).at ≡ length l
@@ -167,7 +207,7 @@ to_the_end (suc n) l room c h k z = go (λ x. to_the_end n l room x) (ltb c.at (
         let x = met room c (Format.read l c.at) in
         let e = next_check l room n c z (ltb-true c.at (length l) q) in
         let y : (checked_from n l room x).refusal ≡ 0 = sym (ap (λ (w : Checked). w.refusal) e) ∙ z in
-        let b = past l room n c z (Format.read l c.at) refl (still n l room x y) in
+        let b = past l room c (Format.read l c.at) refl (still n l room x y) in
         ap (λ (w : Checked). w.at) e ∙ ih x (omega (arith, h, b.0)) b.1 y
 
 -- An empty list is refused.

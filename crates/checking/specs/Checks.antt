@@ -1,12 +1,30 @@
 -- The check of a whole list, record by record.
-use Rattle.std.specs.Prelude.{ℕ, zero, suc, ◌+◌, ◌*◌, ◌/◌, cond, List, ltb, eqb, length}
+use Rattle.std.specs.Prelude.{ℕ, zero, suc, ◌+◌, ◌*◌, ◌/◌, cond, List, ltb, eqb, length, Result}
+use Rattle.settings.specs.declared.refusals.Refusal.{Refusal}
+use Rattle.settings.specs.Refusals.{number_of}
+use Rattle.bank.specs.declared.known.Known.{Known}
 use Rattle.bank.specs.Calls.{if_accepted}
 use Rattle.rows.specs.Strides.{stride_of}
 use Rattle.events.specs.declared.Event.{Event}
-use Rattle.events.specs.declared.Reading.{Reading}
 use Rattle.events.specs.Format as Format
-use Rattle.checking.specs.declared.Checked.{Checked}
+use Rattle.events.specs.Format.{Reading}
+use Rattle.checking.specs.declared.Passed.{Passed}
 use Rattle.checking.specs.Deeds.{deed, own_refusal, known_after, frames_of}
+
+-- How far a list is checked: the number of the refusal, 0 if nothing is refused; the first byte of the record that is refused or comes next; what is
+-- known of the bank, and the frames so far.
+pub record Checked : Type 0 where
+  pub refusal : ℕ
+  pub at : ℕ
+  pub known : Known
+  pub frames : ℕ
+
+-- That of a verdict beside how far the list is accepted, and of a list with no refusal so far.
+abbrev pub seen : {A : Type 0} → Result A Refusal → Passed → Checked
+seen verdict p = record { refusal = number_of verdict; at = p.at; known = p.known; frames = p.frames }
+
+abbrev pub so_far : Passed → Checked
+so_far p = record { refusal = 0; at = p.at; known = p.known; frames = p.frames }
 
 -- Before the first record: no voice is there yet.
 abbrev pub start : Checked

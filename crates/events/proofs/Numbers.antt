@@ -1,8 +1,8 @@
--- Numbers of two, four and eight bytes, as the code adds them up; and a number that isn't 0.
+-- Numbers of two, four and eight bytes, as std adds them up.
 use mathlib.Core.Path.{◌≡◌}
 use mathlib.Core.List.{List}
-use Prim.Native.Nat.{ℕ, suc, ◌+◌, ◌-◌, ◌*◌}
-use native.Mathlib.Numerals.{add-one, add-two, add-three, add-four}
+use Prim.Native.Nat.{ℕ, ◌+◌, ◌*◌}
+use native.Mathlib.Numerals.{add-one, add-two, add-three, add-four, add_five, add_six, add_seven}
 use native.Mathlib.Omega.{arith}
 use Rattle.numbers.specs.Bytes.{number}
 use Rattle.events.specs.Format.{byte}
@@ -16,9 +16,9 @@ module _ (l : List ℕ) (i : ℕ) where
   unfolding number
   four_bytes = simp (add-one, add-two, add-three) (omega arith)
 
-  pub eight_bytes : number 4 l i + number 4 l (i + 4) * 4294967296 ≡ number 8 l i
+  pub eight_bytes
+      : byte l i + byte l (i + 1) * 256 + byte l (i + 2) * 65536 + byte l (i + 3) * 16777216
+      + byte l (i + 4) * 4294967296 + byte l (i + 5) * 1099511627776 + byte l (i + 6) * 281474976710656 + byte l (i + 7) * 72057594037927936
+      ≡ number 8 l i
   unfolding number
-  eight_bytes = simp add-four (omega arith)
-
-pub successor : (n : ℕ) → (n ≡ 0 → ⊥) → n ≡ suc (n - 1)
-successor n h = omega arith
+  eight_bytes = simp (add-one, add-two, add-three, add-four, add_five, add_six, add_seven) (omega arith)

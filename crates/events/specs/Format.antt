@@ -1,5 +1,6 @@
 -- What stands in an event list, byte by byte: document 01, 'The event list', and the numbers 6 to 10 of "No's, by call".
-use Rattle.std.specs.Prelude.{ℕ, zero, suc, ◌+◌, Bool, cond, not, ◌&&◌, List, [], ◌∷◌, ltb, eqb, length, get_or, Float}
+use Rattle.std.specs.Prelude.{ℕ, zero, suc, ◌+◌, Bool, true, false, cond, not, ◌&&◌, List, [], ◌∷◌, ltb, eqb, length, get_or, Float, Option, None, Some, Result, Ok, Err}
+use Rattle.std.specs.Bool.{beq}
 use Rattle.std.specs.Float.{binary32, binary64}
 use Rattle.std.specs.Float.Ieee.{of_bits}
 use Rattle.numbers.specs.Bytes.{number}
@@ -11,9 +12,11 @@ use Rattle.settings.specs.declared.settings.StealRestart.{StealRestart}
 use Rattle.settings.specs.declared.settings.StealRestart.TheVariants.{CurrentLevel, StartLevel}
 use Rattle.settings.specs.declared.settings.Trigger.{Trigger}
 use Rattle.settings.specs.declared.settings.Trigger.TheVariants.{New, Retrigger, Legato}
+use Rattle.settings.specs.declared.refusals.Refusal.{Refusal}
+use Rattle.settings.specs.Refusals as Refusals
 use Rattle.events.specs.declared.Event.{Event}
-use Rattle.events.specs.declared.Reading.{Reading}
-use Rattle.events.specs.declared.Tag.{Tag}
+use Rattle.events.specs.declared.Record as TheRecord
+use Rattle.events.specs.declared.tags.Tag.{Tag}
 
 -- ---- numbers
 
@@ -73,27 +76,35 @@ named l i = ltb (byte l i) 2 && (ltb (byte l (i + 45)) 2 && ltb (byte l (i + 46)
 
 -- ---- records
 
+-- What stands at a place of a list: an event and the place after its record, or the number that refuses the record.
+pub data Reading : Type 0 where
+  Record : Event → ℕ → Reading
+  Refused : ℕ → Reading
+
+abbrev pub reading : Result TheRecord.Record Refusal → Reading
+reading (Ok r) = Reading.Record r.event r.next
+reading (Err e) = Reading.Refused (Refusals.number e)
+
 -- The tags by their numbers, from 0, which is no tag's. A number past them is no tag's either.
-abbrev pub tags : List Tag
+abbrev pub tags : List (Option Tag)
 tags =
-    Tag.Unknown
-    ∷ Tag.Open
-    ∷ Tag.SetParams
-    ∷ Tag.SetAllParams
-    ∷ Tag.SetTiming
-    ∷ Tag.Trigger
-    ∷ Tag.Release
-    ∷ Tag.Reset
-    ∷ Tag.Join
-    ∷ Tag.Frames
+    None
+    ∷ Some Tag.Open
+    ∷ Some Tag.SetParams
+    ∷ Some Tag.SetAllParams
+    ∷ Some Tag.SetTiming
+    ∷ Some Tag.Trigger
+    ∷ Some Tag.Release
+    ∷ Some Tag.Reset
+    ∷ Some Tag.Join
+    ∷ Some Tag.Frames
     ∷ []
 
-abbrev pub tag_of : ℕ → Tag
-tag_of n = get_or tags n Tag.Unknown
+abbrev pub tag_of : ℕ → Option Tag
+tag_of n = get_or tags n None
 
--- The body's length by the tag, 0 if the tag is unknown: no body is empty.
+-- The body's length by the tag.
 abbrev pub body_length : Tag → ℕ
-body_length Tag.Unknown = 0
 body_length Tag.Open = 72
 body_length Tag.SetParams = 48
 body_length Tag.SetAllParams = 47
@@ -104,36 +115,54 @@ body_length Tag.Reset = 1
 body_length Tag.Join = 2
 body_length Tag.Frames = 4
 
--- The event, or 10 if a code byte has no name.
-abbrev pub if_named : Bool → Event → ℕ → Reading
-if_named b e next = cond b (Reading.Record e next) (Reading.Refused 10)
+abbrev pub is_open : Tag → Bool
+is_open Tag.Open = true
+is_open Tag.SetParams = false
+is_open Tag.SetAllParams = false
+is_open Tag.SetTiming = false
+is_open Tag.Trigger = false
+is_open Tag.Release = false
+is_open Tag.Reset = false
+is_open Tag.Join = false
+is_open Tag.Frames = false
 
--- What a record with this tag says, whose body begins at byte i and ends before byte `next`.
-unfoldable pub meaning : Tag → List ℕ → ℕ → ℕ → Reading
-meaning Tag.Unknown l i next = Reading.Refused 7
-meaning Tag.Open l i next = if_named (named l (i + 25)) (Event.Open (byte l i) (timing l (i + 1)) (params l (i + 25))) next
-meaning Tag.SetParams l i next = if_named (named l (i + 1)) (Event.SetParams (byte l i) (params l (i + 1))) next
-meaning Tag.SetAllParams l i next = if_named (named l i) (Event.SetAllParams (params l i)) next
-meaning Tag.SetTiming l i next = Reading.Record (Event.SetTiming (timing l i)) next
-meaning Tag.Trigger l i next = if_named (ltb (byte l (i + 1)) 3) (Event.Trigger (byte l i) (kind (byte l (i + 1)))) next
-meaning Tag.Release l i next = Reading.Record (Event.Release (byte l i)) next
-meaning Tag.Reset l i next = Reading.Record (Event.Reset (byte l i)) next
-meaning Tag.Join l i next = Reading.Record (Event.Join (byte l i) (byte l (i + 1))) next
-meaning Tag.Frames l i next = Reading.Record (Event.Frames (number 4 l i)) next
+-- What is read, or that a code byte has no name.
+abbrev pub if_named : {A : Type 0} → Bool → A → Result A Refusal
+if_named b x = cond b (Ok x) (Err Refusal.UnnamedCode)
 
--- Whether a record with the tag of number n stands where it may: an open, 1, at byte 0, where the first record is, and nowhere else.
-abbrev pub placed : ℕ → ℕ → Bool
-placed n at = cond (eqb at 0) (eqb n 1) (not (eqb n 1))
+-- What a record with this tag says, whose body begins at byte i.
+unfoldable pub meaning : Tag → List ℕ → ℕ → Result Event Refusal
+meaning Tag.Open l i = if_named (named l (i + 25)) (Event.Open (byte l i) (timing l (i + 1)) (params l (i + 25)))
+meaning Tag.SetParams l i = if_named (named l (i + 1)) (Event.SetParams (byte l i) (params l (i + 1)))
+meaning Tag.SetAllParams l i = if_named (named l i) (Event.SetAllParams (params l i))
+meaning Tag.SetTiming l i = Ok (Event.SetTiming (timing l i))
+meaning Tag.Trigger l i = if_named (ltb (byte l (i + 1)) 3) (Event.Trigger (byte l i) (kind (byte l (i + 1))))
+meaning Tag.Release l i = Ok (Event.Release (byte l i))
+meaning Tag.Reset l i = Ok (Event.Reset (byte l i))
+meaning Tag.Join l i = Ok (Event.Join (byte l i) (byte l (i + 1)))
+meaning Tag.Frames l i = Ok (Event.Frames (number 4 l i))
+
+-- That, as a reading of a record that ends before byte `next`.
+abbrev pub ended : ℕ → Result Event Refusal → Reading
+ended next (Ok e) = Reading.Record e next
+ended next (Err e) = Reading.Refused (Refusals.number e)
+
+-- Whether a record with this tag stands where it may: an open at byte 0, where the first record is, and no other record there.
+abbrev pub placed : Tag → ℕ → Bool
+placed tag at = beq (is_open tag) (eqb at 0)
+
+abbrev pub if_known : Option Tag → (Tag → Reading) → Reading
+if_known None f = Reading.Refused 7
+if_known (Some tag) f = f tag
 
 -- The record at byte `at`, tested in document 01's order: 6 its head or its body doesn't fit, 7 an unknown tag, 8 a wrong length, 9 an open that
 -- isn't first or a first record that is no open, 10 a code byte without a name.
 unfoldable pub read : List ℕ → ℕ → Reading
 read l at =
-    let tag = tag_of (byte l at) in
     let len = number 2 l (at + 1) in
     cond (ltb (length l) (at + 3)) (Reading.Refused 6)
     (cond (ltb (length l) (at + 3 + len)) (Reading.Refused 6)
-    (cond (eqb (body_length tag) 0) (Reading.Refused 7)
-    (cond (not (eqb len (body_length tag))) (Reading.Refused 8)
-    (cond (not (placed (byte l at) at)) (Reading.Refused 9)
-    (meaning tag l (at + 3) (at + 3 + len))))))
+    (if_known (tag_of (byte l at)) (λ tag.
+    cond (not (eqb len (body_length tag))) (Reading.Refused 8)
+    (cond (not (placed tag at)) (Reading.Refused 9)
+    (ended (at + 3 + len) (meaning tag l (at + 3)))))))

@@ -10,7 +10,7 @@ use lib.Dec.{eqb}
 use lib.Ieee.{Float}
 use lib.ListN.{length, length-replicate}
 use Rattle.lane.specs.Planning as Planning
-use Rattle.memory.specs.Memory.{Arrays}
+use Rattle.memory.specs.declared.arrays.Arrays.{Arrays}
 use Rattle.rows.specs.Strides.{stride_of}
 use Rattle.bank.specs.declared.known.Known.{Known}
 use Rattle.bank.specs.Calls.{Call, if_accepted, opened, refusal}
@@ -22,13 +22,12 @@ use Rattle.bank.proofs.Frames.{length-rows}
 use Rattle.bank.proofs.Held.{size_of}
 use Rattle.histories.proofs.Kept.{kept}
 use Rattle.events.specs.declared.Event.{Event}
-use Rattle.events.specs.declared.Reading.{Reading}
 use Rattle.events.specs.Format as Format
+use Rattle.events.specs.Format.{Reading}
 use Rattle.events.proofs.Records as Records
 use Rattle.events.proofs.Records.{read_first}
-use Rattle.checking.specs.declared.Checked.{Checked}
 use Rattle.checking.specs.Deeds.{Deed, opens, calls, deed, own_refusal, known_after, frames_of}
-use Rattle.checking.specs.Checks.{passed}
+use Rattle.checking.specs.Checks.{Checked, passed}
 use Rattle.checking.proofs.Passing.{Accepted}
 use Rattle.player.specs.Playing.{after, levels, handed, put}
 
@@ -141,37 +140,31 @@ module _ (room : ℕ) (b : Bank) (l : List ℕ) (at asked : ℕ) (e : Event) (ne
 
 -- ---- what is applied
 
--- The event e makes b' of the bank, and puts r bytes of levels into the output.
-abbrev pub Applied : Bank → Event → List ℕ → Bank → List ℕ → ℕ → Type 0
-Applied b e out b' out' r =
-    let bs = bytes (handed b (deed (known b) e)) in
-    (b' ≡ after b (deed (known b) e)) × ((out' ≡ put bs out) × (r ≡ length bs))
+module _ (b : Bank) (out : List ℕ) where
+  -- An event that asks for no frames writes nothing.
+  pub quiet_levels : (e : Event) → frames_of e ≡ 0 → out ≡ put (bytes (handed b (deed (known b) e))) out
+  quiet_levels e z = ap (λ (xs : List Float). put (bytes xs) out) (sym (handed-rows b e ∙ ap (λ (n : ℕ). rows n b) z))
 
--- One that asks for no frames writes nothing.
-pub applied_quiet : (b : Bank) (e' e : Event) (out : List ℕ) (b' : Bank) → e' ≡ e → frames_of e ≡ 0 → b' ≡ after b (deed (known b) e) → Applied b e' out b' out 0
-applied_quiet b e' e out b' is z q =
-    let n : handed b (deed (known b) e) ≡ [] = handed-rows b e ∙ ap (λ (n : ℕ). rows n b) z in
-    subst (λ (e : Event). Applied b e out b' out 0) (sym is)
-    (q, (ap (λ (xs : List Float). put (bytes xs) out) (sym n), ap (λ (xs : List Float). length (bytes xs)) (sym n)))
+  pub quiet_count : (e : Event) → frames_of e ≡ 0 → 0 ≡ length (bytes (handed b (deed (known b) e)))
+  quiet_count e z = ap (λ (xs : List Float). length (bytes xs)) (sym (handed-rows b e ∙ ap (λ (n : ℕ). rows n b) z))
 
--- n frames, for which there is room.
-module _ (b : Bank) (n : ℕ) (out : List ℕ) (b' : Bank) (out' : List ℕ) (r : ℕ) where
-  abbrev pub Frames : Type 0
-  Frames = (b' ≡ frames n b) × ((out' ≡ put (bytes (rows n b)) out) × (r ≡ length (bytes (rows n b))))
-
-  pub frames-drawn : n * stride_of (size b) ≤ length out / 4 → b' ≡ after_bytes b n (length out) → out' ≡ written_bytes b n out → r ≡ n * (4 * stride_of (size b)) → Frames
+  -- n frames, for which there is room.
+  pub frames-drawn : (n : ℕ) (b' : Bank) (out' : List ℕ) → n * stride_of (size b) ≤ length out / 4 → b' ≡ after_bytes b n (length out) → out' ≡ written_bytes b n out
+      → (b' ≡ frames n b) × (out' ≡ put (bytes (rows n b)) out)
   unfolding bytes_refusal after_bytes written_bytes
-  frames-drawn h p q s =
+  frames-drawn n b' out' h p q =
       let e = le-ltb (length out / 4) (n * stride_of (size b)) h in
-      let k : n * (4 * stride_of (size b)) ≡ 4 * (n * stride_of (size b)) = omega arith in
-      (p ∙ rw e, (q ∙ rw e, s ∙ k ∙ sym (length-bytes (rows n b) ∙ ap (λ (m : ℕ). 4 * m) (length-rows n b))))
+      (p ∙ rw e, q ∙ rw e)
 
-  pub applied_frames : (e : Event) → e ≡ Event.Frames n → Frames → Applied b e out b' out' r
-  unfolding after deed frames_of
-  applied_frames e is (p, (q, s)) =
-      let x : rows n b ≡ handed b (deed (known b) (Event.Frames n)) = sym (handed-rows b (Event.Frames n)) in
-      subst (λ (e : Event). Applied b e out b' out' r) (sym is)
-      (p ∙ sym (block-frames b (size b) n refl), (q ∙ ap (λ (xs : List Float). put (bytes xs) out) x, s ∙ ap (λ (xs : List Float). length (bytes xs)) x))
+-- They take four bytes a level.
+pub bytes_drawn : (b : Bank) (n : ℕ) → n * (4 * stride_of (size b)) ≡ length (bytes (rows n b))
+bytes_drawn b n =
+    let k : n * (4 * stride_of (size b)) ≡ 4 * (n * stride_of (size b)) = omega arith in
+    k ∙ sym (length-bytes (rows n b) ∙ ap (λ (m : ℕ). 4 * m) (length-rows n b))
+
+pub frames_after : (b : Bank) (n : ℕ) → frames n b ≡ after b (deed (known b) (Event.Frames n))
+unfolding after deed
+frames_after b n = sym (block-frames b (size b) n refl)
 
 -- A row has at most 64 lanes.
 pub stride-small : (m : Arrays) → stride_of (size (bank_of m)) ≤ 64

@@ -1,5 +1,4 @@
 -- Laws of the player: what an event does, record after record, and what the host gets.
-pub mod Signs
 pub mod Doing
 pub mod Progress
 pub mod Written

@@ -22,17 +22,19 @@ use Rattle.timing.specs.Clock as Clock
 use Rattle.settings.specs.Settings.{amp}
 use Rattle.lane.specs.Planning as Planning
 use Rattle.events.specs.declared.Event.{Event}
-use Rattle.events.specs.declared.Reading.{Reading}
 use Rattle.events.specs.Format as Format
+use Rattle.events.specs.Format.{Reading}
 use Rattle.events.proofs.Records.{read_next}
-use Rattle.checking.specs.declared.Checked.{Checked}
 use Rattle.checking.specs.Deeds.{deed, frames_of}
-use Rattle.checking.specs.Checks.{start, judged, met, checked_from, checked}
+use Rattle.checking.specs.Checks.{Checked, start, judged, met, checked_from, checked}
 use Rattle.checking.proofs.Passing.{one_more, some, refused_none, still, Accepted, judged-accepted}
 use Rattle.player.specs.Playing.{if_record, events_from, unopened, after, handed, heard, level_bytes, put}
 use Rattle.player.proofs.Doing.{far, handed-rows, passed-far, levels-more}
 
-pub record Played (l out₀ out : List ℕ) (b : Bank) (at to records : ℕ) : Type 0 where
+pub record Played (l out₀ out : List ℕ) (b : Bank) (at to : ℕ) : Type 0 where
+  -- As many records as may be left.
+  pub records : ℕ
+  pub enough : length l ≤ at + records
   -- The frames that were asked for so far.
   pub asked : ℕ
   pub first : at ≡ 0 → asked ≡ 0
@@ -57,9 +59,11 @@ unopened-none =
     let o = opening 0 amp (Clock.new Constants.zero) in
     ap {B = Known} (λ (n : ℕ). record { voices = n }) (none-opened (opening_refusal o) o refl)
 
-pub begun : (l out : List ℕ) (b : Bank) → b ≡ unopened → (checked l (length out)).refusal ≡ 0 → Played l out out b 0 0 (length l)
+pub begun : (l out : List ℕ) (b : Bank) → b ≡ unopened → (checked l (length out)).refusal ≡ 0 → Played l out out b 0 0
 begun l out b e z =
     record {
+      records = length l;
+      enough = omega arith;
       asked = 0;
       first = λ h. refl;
       passes =
@@ -108,23 +112,26 @@ module _ (to : ℕ) (out bs : List ℕ) (h : to ≤ length out) where
       ∙ length-append (take to out ++ bs) (drop (length bs) (drop to out))
       ∙ omega (arith, k, seam, length-drop (length bs) (drop to out), length-drop to out)
 
-module _ (l out₀ out : List ℕ) (b : Bank) (at to records : ℕ) (P : Played l out₀ out b at to records) (more : 0 < records) (e : Event) (next : ℕ)
+module _ (l out₀ out : List ℕ) (b : Bank) (at to : ℕ) (P : Played l out₀ out b at to) (e : Event) (next : ℕ)
     (is : Format.read l at ≡ Reading.Record e next) where
+  more : 0 < P.records
+  more = omega (arith, read_next l at e next is, P.enough)
+
   abbrev room : ℕ
   room = length out₀ / 4
 
   abbrev c : Checked
   c = far at b P.asked
 
-  judged_on : (checked_from (records - 1) l room (judged room c e next)).refusal ≡ 0
+  judged_on : (checked_from (P.records - 1) l room (judged room c e next)).refusal ≡ 0
   unfolding met
   judged_on =
       let h = read_next l at e next is in
-      sym (ap (λ (x : Checked). x.refusal) (one_more l room c records more refl (omega (arith, h)) ∙ ap (λ (r : Reading). checked_from (records - 1) l room (met room c r)) is))
+      sym (ap (λ (x : Checked). x.refusal) (one_more l room c P.records more refl (omega (arith, h)) ∙ ap (λ (r : Reading). checked_from (P.records - 1) l room (met room c r)) is))
       ∙ P.passes
 
   accepted : Accepted room c e next
-  accepted = judged-accepted room c e next (still (records - 1) l room (judged room c e next) judged_on)
+  accepted = judged-accepted room c e next (still (P.records - 1) l room (judged room c e next) judged_on)
 
   abbrev bs : List ℕ
   bs = bytes (handed b (deed (known b) e))
@@ -153,11 +160,11 @@ module _ (l out₀ out : List ℕ) (b : Bank) (at to records : ℕ) (P : Played 
 
   -- It has been applied, to the part of the output from `to` on.
   pub one_on : (b' : Bank) (p' : List ℕ) (to' : ℕ) → b' ≡ b₁ → p' ≡ put bs (mid_of to (length out - to) out) → to' ≡ length bs
-      → Played l out₀ (put_mid to (length out - to) out p') b' next (to + to') (records - 1)
+      → Played l out₀ (put_mid to (length out - to) out p') b' next (to + to')
   one_on b' p' to' b-is p-is t-is =
-      subst (λ (o : List ℕ). Played l out₀ o b' next (to + to') (records - 1)) (sym out-is)
-      (subst (λ (n : ℕ). Played l out₀ new-out b' next (to + n) (records - 1)) (sym t-is)
-      (subst (λ (b : Bank). Played l out₀ new-out b next (to + length bs) (records - 1)) (sym b-is) done))
+      subst (λ (o : List ℕ). Played l out₀ o b' next (to + to')) (sym out-is)
+      (subst (λ (n : ℕ). Played l out₀ new-out b' next (to + n)) (sym t-is)
+      (subst (λ (b : Bank). Played l out₀ new-out b next (to + length bs)) (sym b-is) done))
     where
       new-out : List ℕ
       new-out = take to out ++ put bs (drop to out)
@@ -166,13 +173,13 @@ module _ (l out₀ out : List ℕ) (b : Bank) (at to records : ℕ) (P : Played 
       out-is = rest_back to out p' ∙ ap (λ (p : List ℕ). take to out ++ p) (p-is ∙ ap (put bs) (rest-lent to out))
 
       es : List Event
-      es = events_from (records - 1) l next
+      es = events_from (P.records - 1) l next
 
       head-is : take (to + length bs) new-out ++ bytes (heard b₁ es) ≡ level_bytes l
       head-is =
           ap (λ (l : List ℕ). l ++ bytes (heard b₁ es)) (put-head to out bs P.there)
           ∙ append_assoc (take to out) bs (bytes (heard b₁ es))
-          ∙ ap (λ (l : List ℕ). take to out ++ l) (sym (bytes-append (handed b (deed (known b) e)) (heard b₁ es)) ∙ sym (ap (λ (es : List Event). bytes (heard b es)) (events-more records l at e next more is)))
+          ∙ ap (λ (l : List ℕ). take to out ++ l) (sym (bytes-append (handed b (deed (known b) e)) (heard b₁ es)) ∙ sym (ap (λ (es : List Event). bytes (heard b es)) (events-more P.records l at e next more is)))
           ∙ P.head
 
       tail-is : drop (to + length bs) new-out ≡ drop (to + length bs) out₀
@@ -182,13 +189,15 @@ module _ (l out₀ out : List ℕ) (b : Bank) (at to records : ℕ) (P : Played 
           ∙ ap (drop (length bs)) P.tail
           ∙ drop-drop (length bs) to out₀
 
-      done : Played l out₀ new-out b₁ next (to + length bs) (records - 1)
+      done : Played l out₀ new-out b₁ next (to + length bs)
       done =
           record {
+            records = P.records - 1;
+            enough = omega (arith, read_next l at e next is, P.enough);
             asked = P.asked + frames_of e;
             first = λ h. absurd (omega (arith, h, read_next l at e next is));
             passes =
-                ap (λ (x : Checked). (checked_from (records - 1) l room x).refusal) (sym (passed-far room b l at P.asked e next is P.first accepted) ∙ sym accepted.is)
+                ap (λ (x : Checked). (checked_from (P.records - 1) l room x).refusal) (sym (passed-far room b l at P.asked e next is P.first accepted) ∙ sym accepted.is)
                 ∙ judged_on;
             place = omega (arith, P.place, many, counted);
             there = omega (arith, inside, put-long to out bs P.there inside);
@@ -199,17 +208,15 @@ module _ (l out₀ out : List ℕ) (b : Bank) (at to records : ℕ) (P : Played 
 
 -- ---- the end
 
-pub no_records : (l : List ℕ) (at n : ℕ) → n ≡ 0 → events_from n l at ≡ []
-no_records l at zero e = refl
-no_records l at (suc n) e = absurd (omega arith)
+-- Where no record can be read, none is left.
+no_record : (l : List ℕ) (at n k : ℕ) → Format.read l at ≡ Reading.Refused k → events_from n l at ≡ []
+no_record l at zero k is = refl
+no_record l at (suc n) k is = ap (λ (r : Reading). if_record r (λ e next. e ∷ events_from n l next)) is
 
-pub no_record : (l : List ℕ) (at n k : ℕ) → Format.read l at ≡ Reading.Refused k → events_from n l at ≡ []
-no_record l at zero k e = refl
-no_record l at (suc n) k e = ap (λ (r : Reading). if_record r (λ e next. e ∷ events_from n l next)) e
-
-pub finished : (l out₀ out : List ℕ) (b : Bank) (at to records : ℕ) → Played l out₀ out b at to records → events_from records l at ≡ []
+pub finished : (l out₀ out : List ℕ) (b : Bank) (at to : ℕ) → Played l out₀ out b at to → (k : ℕ) → Format.read l at ≡ Reading.Refused k
     → out ≡ put (level_bytes l) out₀
-finished l out₀ out b at to records P e =
+finished l out₀ out b at to P k is =
+    let e = no_record l at P.records k is in
     let h : take to out ≡ level_bytes l = sym (append-nil (take to out)) ∙ ap (λ (es : List Event). take to out ++ bytes (heard b es)) (sym e) ∙ P.head in
     let n : length (level_bytes l) ≡ to = ap length (sym h) ∙ length-take-le to out P.there in
     sym (take-append-drop to out) ∙ ap₂ (λ (x y : List ℕ). x ++ y) h (P.tail ∙ ap (λ (i : ℕ). drop i out₀) (sym n))

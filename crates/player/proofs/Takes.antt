@@ -16,13 +16,12 @@ use Rattle.histories.proofs.Kept.{kept}
 use Rattle.histories.proofs.Stands.{fresh-stands}
 use Rattle.histories.proofs.Answers.{replies-due}
 use Rattle.events.specs.declared.Event.{Event}
-use Rattle.events.specs.declared.Reading.{Reading}
 use Rattle.events.specs.Format as Format
+use Rattle.events.specs.Format.{Reading}
 use Rattle.events.proofs.Records as Records
 use Rattle.events.proofs.Records.{read_first, read_next, read-refused}
-use Rattle.checking.specs.declared.Checked.{Checked}
 use Rattle.checking.specs.Deeds.{Deed, opens, calls, deed, own_refusal, known_after}
-use Rattle.checking.specs.Checks.{start, judged, met, checked}
+use Rattle.checking.specs.Checks.{Checked, start, judged, met, checked}
 use Rattle.checking.proofs.Judging.{own}
 use Rattle.checking.proofs.Passing.{one_more, some, refused_none, still, judged-accepted}
 use Rattle.player.proofs.Doing.{differ, is_open, open_deed, known-after}

@@ -12,12 +12,11 @@ use Rattle.bank.specs.declared.known.Known.{Known}
 use Rattle.bank.specs.Calls.{if_accepted}
 use Rattle.bank.specs.Banks.{Bank, size, known}
 use Rattle.bank.proofs.Frames.{length-rows}
-use Rattle.events.specs.declared.Reading.{Reading}
 use Rattle.events.specs.Format as Format
+use Rattle.events.specs.Format.{Reading}
 use Rattle.events.proofs.Records.{read_next, read-refused}
-use Rattle.checking.specs.declared.Checked.{Checked}
 use Rattle.checking.specs.Deeds.{deed, frames_of}
-use Rattle.checking.specs.Checks.{start, judged, met, checked_from, checked}
+use Rattle.checking.specs.Checks.{Checked, start, judged, met, checked_from, checked}
 use Rattle.checking.proofs.Passing.{some, refused_none, still, ended, next_check, judged-accepted, accepted-whole}
 use Rattle.player.specs.Playing.{if_record, events_from, events, unopened, after, handed, heard, refused_at}
 use Rattle.player.proofs.Doing.{far, handed-rows, passed-far, levels-more}

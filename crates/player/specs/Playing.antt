@@ -9,8 +9,8 @@ use Rattle.bank.specs.Banks.{Bank, bytes}
 use Rattle.bank.specs.Replies as Replies
 use Rattle.bank.specs.Replies.{Reply}
 use Rattle.events.specs.declared.Event.{Event}
-use Rattle.events.specs.declared.Reading.{Reading}
 use Rattle.events.specs.Format as Format
+use Rattle.events.specs.Format.{Reading}
 use Rattle.checking.specs.Deeds.{Deed, opens, calls, deed}
 use Rattle.checking.specs.Checks as Checks
 

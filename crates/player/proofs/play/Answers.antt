@@ -1,70 +1,58 @@
-use mathlib.Core.Path.{◌≡◌, sym, ap, ◌∙◌, subst}
-use mathlib.Core.List.{List}
+-- `play`: what the check told decides. A refusal's number is small, so minus it fits; and so are the frames of an accepted list, since an output
+-- holds fewer of them than bytes (`small`).
+use mathlib.Core.Path.{◌≡◌, sym, ap, ◌∙◌}
 use Prim.Native.Nat.{ℕ, ◌/◌, ◌^◌, ◌<◌}
 use native.Mathlib.Omega.{arith}
-use lib.IntN.{pos, neg_ℤ}
+use lib.IntN.{pos, neg_ℤ, ◌-ℤ◌}
 use lib.ListN.{length}
 use mir.Syntax.{w64}
-use mir.Val.{SFits}
-use mir.ValLaws.{to_z_pos, to_z-of_z}
+use mir.Val.{to_z, of_z}
+use Rattle.std.proofs.lemmas.Int.{ints}
+use Rattle.settings.specs.Refusals.{number, number_of}
+use Rattle.settings.proofs.Handed.{number-some}
 use Rattle.bank.specs.Calls.{if_accepted}
-use Rattle.checking.specs.declared.Checked.{Checked}
 use Rattle.bank.proofs.Accepted.{if_refused, if_accepted_lem}
+use Rattle.checking.specs.Checks.{Checked, checked}
 use Rattle.checking.proofs.Passing.{held-frames, checked-held}
-use Rattle.player.proofs.Signs.{negative_fits}
 use Rattle.player.specs.Playing.{level_bytes, put, result, output}
-use borrow.Author.Rules.{rules}
 use Rattle.player.proofs.play.Goals as goal
-use Rattle.player.proofs.play.Goals.{After-check-c}
+use Rattle.player.proofs.play.Goals.{After-check-checked}
 
--- The output of an accepted list.
-abbrev after-playing : List ℕ → List ℕ → List ℕ
-after-playing l out = put (level_bytes l) out
-
--- An output holds fewer frames than bytes.
-small : (c : After-check-c) → c.check-c.result.frames < 2 ^ 63
+small : (c : After-check-checked) → c.check-checked.result.passed.frames < 2 ^ 63
 small c =
     let a = c.args in
     let l = length a.out.now in
     let H = held-frames (l / 4) _ (checked-held a.list.now l) in
-    let e = ap (λ (x : Checked). x.frames) c.check-c.ensures in
+    let e = ap (λ (x : Checked). x.frames) c.check-checked.ensures in
     omega (arith, e, H, c.well_formed.1.0)
 
-pub returns-then-c-ne-ACCEPTED : goal.returns-then-c-ne-ACCEPTED
+pub returns-in-Err : goal.returns-in-Err
 unfolding result output
-returns-then-c-ne-ACCEPTED c =
+returns-in-Err c =
     let a = c.args in
-    let q = c.check-c in
-    let d = c.if-c-ne-ACCEPTED.true in
-    let fits = subst (SFits w64) (sym c.minus.ensures) (negative_fits q.result.refusal (search rules)) in record {
-      result = to_z-of_z w64 c.minus.result fits
-          ∙ c.minus.ensures
-          ∙ sym (if_refused q.result.refusal (pos q.result.frames) (neg_ℤ (pos q.result.refusal)) d)
-          ∙ ap (λ (x : Checked). if_accepted x.refusal (pos x.frames) (neg_ℤ (pos x.refusal))) q.ensures;
-      output = sym (if_refused q.result.refusal (after-playing a.list.now a.out.now) a.out.now d)
-          ∙ ap (λ (x : Checked). if_accepted x.refusal (after-playing a.list.now a.out.now) a.out.now) q.ensures;
+    let n = number c.in-Err.refusal in
+    let k = checked a.list.now (length a.out.now) in
+    let z : k.refusal ≡ n = sym (ap (λ (x : Checked). x.refusal) c.check-checked.ensures) ∙ ap number_of c.in-Err.is in
+    let minus : to_z w64 (of_z w64 (pos 0 -ℤ to_z w64 c.number.result)) ≡ neg_ℤ (pos n) = omega (arith, ints) in
+    let played = put (level_bytes a.list.now) a.out.now in
+    let d = number-some c.in-Err.refusal in record {
+      result = minus ∙ sym (ap (λ (n : ℕ). if_accepted n (pos k.frames) (neg_ℤ (pos n))) z ∙ if_refused n (pos k.frames) (neg_ℤ (pos n)) d);
+      output = sym (ap (λ (n : ℕ). if_accepted n played a.out.now) z ∙ if_refused n played a.out.now d);
     }
 
-pub play_records-requires : goal.play_records-requires
-play_records-requires c =
-    let q = c.check-c in
-    let z : q.result.refusal ≡ 0 = omega (arith, c.if-c-ne-ACCEPTED.false) in
-    sym (ap (λ (x : Checked). x.refusal) q.ensures) ∙ z
-
-pub overflow_cast-result : goal.overflow_cast-result
-overflow_cast-result c = record { sfits = small (goal.at.overflow_cast-result c).After-check-c }
+pub overflow_cast-result-2 : goal.overflow_cast-result-2
+overflow_cast-result-2 c = record { sfits = small (goal.at.overflow_cast-result-2 c).After-check-checked }
 
 pub returns : goal.returns
 unfolding result output
 returns c =
     let a = c.args in
-    let q = c.check-c in
-    let z : q.result.refusal ≡ 0 = omega (arith, c.if-c-ne-ACCEPTED.false) in
-    let x = after-playing a.list.now a.out.now in record {
-      result = to_z_pos w64 q.result.frames (small (goal.at.returns c).After-check-c)
-          ∙ sym (if_accepted_lem q.result.refusal (pos q.result.frames) (neg_ℤ (pos q.result.refusal)) z)
-          ∙ ap (λ (x : Checked). if_accepted x.refusal (pos x.frames) (neg_ℤ (pos x.refusal))) q.ensures;
-      output = c.play_records.ensures
-          ∙ sym (if_accepted_lem q.result.refusal x a.out.now z)
-          ∙ ap (λ (y : Checked). if_accepted y.refusal x a.out.now) q.ensures;
+    let q = c.check-checked in
+    let k = checked a.list.now (length a.out.now) in
+    let z : k.refusal ≡ 0 = sym (ap (λ (x : Checked). x.refusal) q.ensures) ∙ ap number_of c.in_default.is in
+    let frames : to_z w64 q.result.passed.frames ≡ pos k.frames =
+    omega (arith, ints, small (goal.at.returns c).After-check-checked, ap (λ (x : Checked). x.frames) q.ensures) in
+    let played = put (level_bytes a.list.now) a.out.now in record {
+      result = frames ∙ sym (if_accepted_lem k.refusal (pos k.frames) (neg_ℤ (pos k.refusal)) z);
+      output = c.play_records.ensures ∙ sym (if_accepted_lem k.refusal played a.out.now z);
     }

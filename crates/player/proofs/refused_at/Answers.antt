@@ -1,5 +1,5 @@
 use mathlib.Core.Path.{ap, ◌∙◌}
-use Rattle.checking.specs.declared.Checked.{Checked}
+use Rattle.checking.specs.Checks.{Checked}
 use Rattle.player.proofs.Written.{place-told}
 use Rattle.player.proofs.refused_at.Goals as goal
 
