@@ -4,36 +4,12 @@
 
 struct holder holders[HOLDERS];
 
-/* Memory in pages of its own. */
-static void *apart(const char *name, enum side side, size_t size, const void **read)
+/* A bank in pages of its own. */
+static void make_bank(struct holder *h)
 {
-    const struct pages pages = fenced(name, size);
-    void *at = part(&pages, side, size);
-    *read = shown(&pages, at);
-    return at;
-}
-
-static void make_arrays(struct holder *h)
-{
-    const void *read;
-    h->to.floats = apart("a bank's floats", h->side, WORFELLI_BANK_FLOATS * sizeof(float), &read);
-    h->from.floats = read;
-    h->to.bends = apart("a bank's bends", h->side, WORFELLI_BANK_BENDS * sizeof(double), &read);
-    h->from.bends = read;
-    h->to.counts = apart("a bank's counts", h->side, WORFELLI_BANK_COUNTS * sizeof(uint64_t), &read);
-    h->from.counts = read;
-    h->to.codes = apart("a bank's codes", h->side, WORFELLI_BANK_CODES * sizeof(uint32_t), &read);
-    h->from.codes = read;
-}
-
-static void make_whole(struct holder *h)
-{
-    const void *read;
-    h->whole = apart("a bank", h->side, sizeof(worfelli_bank), &read);
-    h->whole_read = read;
-    h->to = (struct arrays){h->whole->floats, h->whole->bends, h->whole->counts, h->whole->codes};
-    h->from = (struct read_arrays){h->whole_read->floats, h->whole_read->bends, h->whole_read->counts,
-                                   h->whole_read->codes};
+    const struct pages pages = fenced("a bank", sizeof(worfelli_bank));
+    h->to = (worfelli_bank *)(void *)part(&pages, h->side, sizeof(worfelli_bank));
+    h->from = shown(&pages, h->to);
 }
 
 void make_holders(void)
@@ -41,10 +17,7 @@ void make_holders(void)
     for (size_t i = 0; i < HOLDERS; i++) {
         holders[i].side = i == BEGINNING ? AT_BEGINNING : AT_END;
         holders[i].out = fenced("the output", MOST_LEVELS * sizeof(float) + 2 * BESIDE);
-        if (i == WHOLE)
-            make_whole(&holders[i]);
-        else
-            make_arrays(&holders[i]);
+        make_bank(&holders[i]);
         for (size_t byte = 0; byte < sizeof holders[i].out_before; byte++)
             holders[i].out_before[byte] = (uint8_t)(byte % 251 + 7 * i);
     }
@@ -52,24 +25,13 @@ void make_holders(void)
 
 void look_at(size_t holder, worfelli_bank *content)
 {
-    const struct arrays *from = &holders[holder].to;
-    memcpy(content->floats, from->floats, sizeof content->floats);
-    memcpy(content->bends, from->bends, sizeof content->bends);
-    memcpy(content->counts, from->counts, sizeof content->counts);
-    memcpy(content->codes, from->codes, sizeof content->codes);
-    content->version = holders[WHOLE].whole->version;
+    *content = *holders[holder].to;
 }
 
 void put_content(const worfelli_bank *content)
 {
-    for (size_t i = 0; i < HOLDERS; i++) {
-        const struct arrays *to = &holders[i].to;
-        memcpy(to->floats, content->floats, sizeof content->floats);
-        memcpy(to->bends, content->bends, sizeof content->bends);
-        memcpy(to->counts, content->counts, sizeof content->counts);
-        memcpy(to->codes, content->codes, sizeof content->codes);
-    }
-    holders[WHOLE].whole->version = content->version;
+    for (size_t i = 0; i < HOLDERS; i++)
+        *holders[i].to = *content;
 }
 
 int same_floats(const float *a, const float *b, size_t count)

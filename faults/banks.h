@@ -1,8 +1,9 @@
 /* A live bank held in several ways at once, and the same call made on each of them:
  *
- * - its four arrays apart, each ending, and in a copy each beginning, beside what is inaccessible;
- * - as a worfelli_bank, by the header's own functions;
- * - with GUIDE (the script `guide`), apart again, by the library's code compiled otherwise. */
+ * - by the functions that the library exports, on memory that ends, and on a copy that begins, beside what is
+ *   inaccessible;
+ * - by the header's own functions;
+ * - with GUIDE (the script `guide`), by the library's code compiled otherwise. */
 #ifndef BANKS_H
 #define BANKS_H
 
@@ -11,7 +12,7 @@
 
 #define ENDING 0 /* the one that the others are held to */
 #define BEGINNING 1
-#define WHOLE 2
+#define HEADER 2
 #define GUIDED 3
 #ifdef GUIDE
 #define HOLDERS 4
@@ -21,27 +22,11 @@
 
 #define BESIDE ((size_t)64) /* bytes next to what a call writes that are looked at as well */
 
-struct arrays {
-    float *floats;
-    double *bends;
-    uint64_t *counts;
-    uint32_t *codes;
-};
-
-struct read_arrays {
-    const float *floats;
-    const double *bends;
-    const uint64_t *counts;
-    const uint32_t *codes;
-};
-
 /* The memory of one way. */
 struct holder {
     enum side side;
-    struct arrays to;
-    struct read_arrays from; /* the same memory, only to be read */
-    worfelli_bank *whole;    /* of WHOLE, and its memory only to be read */
-    const worfelli_bank *whole_read;
+    worfelli_bank *to;
+    const worfelli_bank *from; /* the same memory, only to be read */
     struct pages out;
     /* What an output holds before a block: bytes that are others in each holder's, so that one of them tells a
      * byte that was not written from one that was. */
@@ -52,14 +37,14 @@ extern struct holder holders[HOLDERS];
 
 void make_holders(void);
 
-/* What stands in a holder's bank; the version is always WHOLE's. */
+/* What stands in a holder's bank. */
 void look_at(size_t holder, worfelli_bank *content);
 
 /* The same bank for every holder. */
 void put_content(const worfelli_bank *content);
 
-/* Whether two banks have the same numbers, a NaN being a NaN whatever its bits: how those go through a sum
- * is the compiler's choice. */
+/* Whether two banks have the same numbers, whatever their versions. A NaN is a NaN whatever its bits: how those
+ * go through a sum is the compiler's choice. */
 int same_banks(const worfelli_bank *a, const worfelli_bank *b);
 int same_floats(const float *a, const float *b, size_t count);
 

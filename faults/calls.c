@@ -54,9 +54,6 @@ static const struct functions *functions_of(size_t holder)
     return &library;
 }
 
-#define TO(h) (h)->to.floats, (h)->to.bends, (h)->to.counts, (h)->to.codes
-#define FROM(h) (h)->from.floats, (h)->from.bends, (h)->from.counts, (h)->from.codes
-
 /* The call that is being made: its holder, and where what it is given and what it writes stand. */
 static struct {
     size_t holder;
@@ -102,37 +99,37 @@ static void set_pointers(enum side side)
     memset(&call.read, BEFORE, sizeof call.read);
 }
 
-static uint32_t by_arrays(void)
+static uint32_t by_exports(void)
 {
     const struct functions *by = functions_of(call.holder);
     const struct holder *h = &holders[call.holder];
     const struct asked *a = call.asked;
     switch (a->kind) {
     case ASK_OPEN:
-        return by->open(TO(h), a->voice, call.numbers, call.named, a->timing.sample_rate, a->timing.tempo,
+        return by->open(h->to, a->voice, call.numbers, call.named, a->timing.sample_rate, a->timing.tempo,
                         a->timing.scale);
-    case ASK_SET_PARAMS: return by->set_params(TO(h), a->voice, call.numbers, call.named);
-    case ASK_SET_ALL_PARAMS: return by->set_all_params(TO(h), call.numbers, call.named);
-    case ASK_SET_TIMING: return by->set_timing(TO(h), a->timing.sample_rate, a->timing.tempo, a->timing.scale);
-    case ASK_TRIGGER: return by->trigger(TO(h), a->voice, a->trigger);
-    case ASK_RELEASE: return by->release(TO(h), a->voice);
-    case ASK_RESET: return by->reset(TO(h), a->voice);
-    case ASK_JOIN: return by->join(TO(h), a->voice, a->from);
-    case ASK_PROCESS: return by->process(TO(h), call.out, call.levels);
-    case ASK_PARAMS: return by->params(FROM(h), a->voice, call.told_numbers, call.told_named);
-    case ASK_STAGE: return by->stage(FROM(h), a->voice, call.word);
-    case ASK_LEVEL: return by->level(FROM(h), a->voice, call.level);
-    case ASK_IS_IDLE: return by->is_idle(FROM(h), a->voice, call.word);
-    case ASK_TAIL: return by->tail(FROM(h), a->voice, call.frames);
-    case ASK_LEAD: return by->lead(FROM(h), a->voice, call.frames);
+    case ASK_SET_PARAMS: return by->set_params(h->to, a->voice, call.numbers, call.named);
+    case ASK_SET_ALL_PARAMS: return by->set_all_params(h->to, call.numbers, call.named);
+    case ASK_SET_TIMING: return by->set_timing(h->to, a->timing.sample_rate, a->timing.tempo, a->timing.scale);
+    case ASK_TRIGGER: return by->trigger(h->to, a->voice, a->trigger);
+    case ASK_RELEASE: return by->release(h->to, a->voice);
+    case ASK_RESET: return by->reset(h->to, a->voice);
+    case ASK_JOIN: return by->join(h->to, a->voice, a->from);
+    case ASK_PROCESS: return by->process(h->to, call.out, call.levels);
+    case ASK_PARAMS: return by->params(h->from, a->voice, call.told_numbers, call.told_named);
+    case ASK_STAGE: return by->stage(h->from, a->voice, call.word);
+    case ASK_LEVEL: return by->level(h->from, a->voice, call.level);
+    case ASK_IS_IDLE: return by->is_idle(h->from, a->voice, call.word);
+    case ASK_TAIL: return by->tail(h->from, a->voice, call.frames);
+    case ASK_LEAD: return by->lead(h->from, a->voice, call.frames);
     default: broken("this program made no call");
     }
 }
 
 static uint32_t by_header(void)
 {
-    worfelli_bank *to = holders[call.holder].whole;
-    const worfelli_bank *from = holders[call.holder].whole_read;
+    worfelli_bank *to = holders[call.holder].to;
+    const worfelli_bank *from = holders[call.holder].from;
     const struct asked *a = call.asked;
     switch (a->kind) {
     case ASK_OPEN: return worfelli_bank_open(to, a->voice, &a->params, &a->timing);
@@ -157,7 +154,7 @@ static uint32_t by_header(void)
 static void make(void *with)
 {
     (void)with;
-    call.refusal = call.holder == WHOLE ? by_header() : by_arrays();
+    call.refusal = call.holder == HEADER ? by_header() : by_exports();
 }
 
 /* The other compiler's code takes more stack than the header grants. */
@@ -171,22 +168,22 @@ static void run(unsigned mode, void (*what)(void *), void *with)
 
 size_t voices_of(size_t holder)
 {
-    return holder == WHOLE ? worfelli_bank_voices(holders[holder].whole_read)
-                           : functions_of(holder)->voices(FROM(&holders[holder]));
+    return holder == HEADER ? worfelli_bank_voices(holders[holder].from)
+                            : functions_of(holder)->voices(holders[holder].from);
 }
 
 size_t stride_of(size_t holder)
 {
-    return holder == WHOLE ? worfelli_bank_stride(holders[holder].whole_read)
-                           : functions_of(holder)->stride(FROM(&holders[holder]));
+    return holder == HEADER ? worfelli_bank_stride(holders[holder].from)
+                            : functions_of(holder)->stride(holders[holder].from);
 }
 
-/* WHOLE's is aligned for a float and no more; the others' end or begin beside what is inaccessible. */
+/* HEADER's is aligned for a float and no more; the others' end or begin beside what is inaccessible. */
 static float *out_of(size_t holder, size_t levels)
 {
     const struct holder *h = &holders[holder];
     uint8_t *at = part(&h->out, h->side, levels * sizeof(float));
-    return (float *)(void *)(holder == WHOLE ? h->out.first + BESIDE + sizeof(float) : at);
+    return (float *)(void *)(holder == HEADER ? h->out.first + BESIDE + sizeof(float) : at);
 }
 
 const float *block_of(size_t holder, size_t levels)
@@ -252,7 +249,7 @@ static void collect(struct told *told)
 {
     switch (call.asked->kind) {
     case ASK_PARAMS:
-        if (call.holder == WHOLE) {
+        if (call.holder == HEADER) {
             const float n[11] = WORFELLI_NUMBERS(&call.read);
             const uint32_t c[3] = WORFELLI_NAMED(&call.read);
             memcpy(told->numbers, n, sizeof n);
@@ -311,9 +308,9 @@ static void read_all(void *with)
     (void)with;
     for (size_t v = 0; v < wanted.voices; v++) {
         struct reading *r = &wanted.readings[v];
-        wanted.refusals |= by->stage(FROM(h), v, &r->stage) | by->is_idle(FROM(h), v, &r->idle) |
-                           by->level(FROM(h), v, &r->level) | by->tail(FROM(h), v, &r->tail) |
-                           by->lead(FROM(h), v, &r->lead);
+        wanted.refusals |= by->stage(h->from, v, &r->stage) | by->is_idle(h->from, v, &r->idle) |
+                           by->level(h->from, v, &r->level) | by->tail(h->from, v, &r->tail) |
+                           by->lead(h->from, v, &r->lead);
     }
 }
 

@@ -169,9 +169,9 @@ static void see_fresh(const struct asked *asked)
     static float levels[2][4 * WORFELLI_MAX_VOICES];
     const size_t block = 4 * (size_t)WORFELLI_STRIDE(asked->voice);
     uint8_t *bytes = (uint8_t *)&other;
-    copy = after[WHOLE];
+    copy = after[HEADER];
     for (size_t i = 0; i < sizeof other; i++)
-        bytes[i] = (uint8_t)~((const uint8_t *)&before[WHOLE])[i];
+        bytes[i] = (uint8_t)~((const uint8_t *)&before[HEADER])[i];
     if (worfelli_bank_open(&other, asked->voice, &asked->params, &asked->timing) != 0 ||
         other.version != WORFELLI_VERSION)
         broken("opened over other bytes, the bank is refused or has another version");
@@ -230,7 +230,7 @@ static void see_reading(const struct asked *asked, const struct told *told)
 static void see_holders(const struct asked *asked, const struct told *told)
 {
     for (size_t i = 1; i < HOLDERS; i++) {
-        const char *how = i == GUIDED ? "compiled otherwise" : i == WHOLE ? "by the header's functions" : "elsewhere";
+        const char *how = i == GUIDED ? "compiled otherwise" : i == HEADER ? "by the header's functions" : "elsewhere";
         if (i == GUIDED && now.mode != USUAL)
             continue;
         if (!same_banks(&after[ENDING], &after[i]))
@@ -248,9 +248,11 @@ static void see_holders(const struct asked *asked, const struct told *told)
 /* What a call must leave is left. */
 static void see_kept(const struct asked *asked, uint32_t refusal)
 {
-    const uint32_t version = asked->kind == ASK_OPEN ? WORFELLI_VERSION : before[WHOLE].version;
-    if (after[WHOLE].version != version)
-        broken("call %d: the bank's version is %" PRIu32, (int)asked->kind, after[WHOLE].version);
+    for (size_t i = 0; i < HOLDERS; i++) {
+        const int opened = i == HEADER && asked->kind == ASK_OPEN;
+        if (after[i].version != (opened ? WORFELLI_VERSION : before[i].version))
+            broken("call %d: the bank's version is %" PRIu32, (int)asked->kind, after[i].version);
+    }
     if (asked->kind < ASK_PARAMS && (refusal == 0 || asked->kind == ASK_OPEN))
         return;
     for (size_t i = 0; i < HOLDERS; i++)

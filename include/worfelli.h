@@ -37,9 +37,10 @@
 extern "C" {
 #endif
 
-/* The version of this header's types and functions. A library of another version may lay a bank out in
- * another way; worfelli_agrees() tells. */
-#define WORFELLI_VERSION 1u
+/* The version of this header's types and functions. A library of another version may take other parameters
+ * or lay a bank out in another way; worfelli_agrees() tells. The functions worfelli_live_... of version 1
+ * took a bank's four arrays one by one; a bank lies as it did there. */
+#define WORFELLI_VERSION 2u
 
 /* What a call or a list is refused by; 0 is accepted. */
 enum {
@@ -150,42 +151,28 @@ static inline int worfelli_agrees(void)
     return worfelli_version() == WORFELLI_VERSION && worfelli_bank_size() == sizeof(worfelli_bank);
 }
 
-/* What the library exports for the calls below: a bank's four arrays, one by one; settings as their 11
- * floats in order and the codes unit, legato_inverted and steal_restart. For other languages; in C, use
- * the functions below. */
-uint32_t worfelli_live_open(float *floats, double *bends, uint64_t *counts, uint32_t *codes, size_t voices,
-                            const float *numbers, const uint32_t *named, double sample_rate, double tempo,
-                            double scale);
-uint32_t worfelli_live_set_params(float *floats, double *bends, uint64_t *counts, uint32_t *codes, size_t voice,
-                                  const float *numbers, const uint32_t *named);
-uint32_t worfelli_live_set_all_params(float *floats, double *bends, uint64_t *counts, uint32_t *codes,
-                                      const float *numbers, const uint32_t *named);
-uint32_t worfelli_live_set_timing(float *floats, double *bends, uint64_t *counts, uint32_t *codes,
-                                  double sample_rate, double tempo, double scale);
-uint32_t worfelli_live_trigger(float *floats, double *bends, uint64_t *counts, uint32_t *codes, size_t voice,
-                               uint32_t kind);
-uint32_t worfelli_live_release(float *floats, double *bends, uint64_t *counts, uint32_t *codes, size_t voice);
-uint32_t worfelli_live_reset(float *floats, double *bends, uint64_t *counts, uint32_t *codes, size_t voice);
-uint32_t worfelli_live_join(float *floats, double *bends, uint64_t *counts, uint32_t *codes, size_t voice,
-                            size_t from);
-uint32_t worfelli_live_process(float *floats, double *bends, uint64_t *counts, uint32_t *codes, float *out,
-                               size_t levels);
-size_t worfelli_live_voices(const float *floats, const double *bends, const uint64_t *counts,
-                            const uint32_t *codes);
-size_t worfelli_live_stride(const float *floats, const double *bends, const uint64_t *counts,
-                            const uint32_t *codes);
-uint32_t worfelli_live_params(const float *floats, const double *bends, const uint64_t *counts,
-                              const uint32_t *codes, size_t voice, float *numbers, uint32_t *named);
-uint32_t worfelli_live_stage(const float *floats, const double *bends, const uint64_t *counts,
-                             const uint32_t *codes, size_t voice, uint32_t *stage);
-uint32_t worfelli_live_level(const float *floats, const double *bends, const uint64_t *counts,
-                             const uint32_t *codes, size_t voice, float *level);
-uint32_t worfelli_live_is_idle(const float *floats, const double *bends, const uint64_t *counts,
-                               const uint32_t *codes, size_t voice, uint32_t *idle);
-uint32_t worfelli_live_tail(const float *floats, const double *bends, const uint64_t *counts,
-                            const uint32_t *codes, size_t voice, uint64_t *frames);
-uint32_t worfelli_live_lead(const float *floats, const double *bends, const uint64_t *counts,
-                            const uint32_t *codes, size_t voice, uint64_t *frames);
+/* What the library exports for the calls below: settings are passed as their 11 floats in order and the
+ * codes unit, legato_inverted and steal_restart. None of them reads or writes the bank's version. For other
+ * languages; in C, use the functions below. */
+uint32_t worfelli_live_open(worfelli_bank *bank, size_t voices, const float *numbers, const uint32_t *named,
+                            double sample_rate, double tempo, double scale);
+uint32_t worfelli_live_set_params(worfelli_bank *bank, size_t voice, const float *numbers,
+                                  const uint32_t *named);
+uint32_t worfelli_live_set_all_params(worfelli_bank *bank, const float *numbers, const uint32_t *named);
+uint32_t worfelli_live_set_timing(worfelli_bank *bank, double sample_rate, double tempo, double scale);
+uint32_t worfelli_live_trigger(worfelli_bank *bank, size_t voice, uint32_t kind);
+uint32_t worfelli_live_release(worfelli_bank *bank, size_t voice);
+uint32_t worfelli_live_reset(worfelli_bank *bank, size_t voice);
+uint32_t worfelli_live_join(worfelli_bank *bank, size_t voice, size_t from);
+uint32_t worfelli_live_process(worfelli_bank *bank, float *out, size_t levels);
+size_t worfelli_live_voices(const worfelli_bank *bank);
+size_t worfelli_live_stride(const worfelli_bank *bank);
+uint32_t worfelli_live_params(const worfelli_bank *bank, size_t voice, float *numbers, uint32_t *named);
+uint32_t worfelli_live_stage(const worfelli_bank *bank, size_t voice, uint32_t *stage);
+uint32_t worfelli_live_level(const worfelli_bank *bank, size_t voice, float *level);
+uint32_t worfelli_live_is_idle(const worfelli_bank *bank, size_t voice, uint32_t *idle);
+uint32_t worfelli_live_tail(const worfelli_bank *bank, size_t voice, uint64_t *frames);
+uint32_t worfelli_live_lead(const worfelli_bank *bank, size_t voice, uint64_t *frames);
 
 /* Every call below answers 0, or the number that it is refused by; a refused one changes nothing behind
  * any pointer. An unnamed code, 10, is tested before a call's other numbers. Voices are counted from 0.
@@ -204,8 +191,7 @@ static inline uint32_t worfelli_bank_open(worfelli_bank *bank, size_t voices, co
     const float numbers[11] = WORFELLI_NUMBERS(params);
     const uint32_t named[3] = WORFELLI_NAMED(params);
     bank->version = WORFELLI_VERSION;
-    return worfelli_live_open(bank->floats, bank->bends, bank->counts, bank->codes, voices, numbers, named,
-                              timing->sample_rate, timing->tempo, timing->scale);
+    return worfelli_live_open(bank, voices, numbers, named, timing->sample_rate, timing->tempo, timing->scale);
 }
 
 /* New settings for a voice, from the next frame on. Refused by 10, 2 and 3. */
@@ -213,7 +199,7 @@ static inline uint32_t worfelli_bank_set_params(worfelli_bank *bank, size_t voic
 {
     const float numbers[11] = WORFELLI_NUMBERS(params);
     const uint32_t named[3] = WORFELLI_NAMED(params);
-    return worfelli_live_set_params(bank->floats, bank->bends, bank->counts, bank->codes, voice, numbers, named);
+    return worfelli_live_set_params(bank, voice, numbers, named);
 }
 
 /* New settings for every voice. Refused by 10 and 3. */
@@ -221,38 +207,37 @@ static inline uint32_t worfelli_bank_set_all_params(worfelli_bank *bank, const w
 {
     const float numbers[11] = WORFELLI_NUMBERS(params);
     const uint32_t named[3] = WORFELLI_NAMED(params);
-    return worfelli_live_set_all_params(bank->floats, bank->bends, bank->counts, bank->codes, numbers, named);
+    return worfelli_live_set_all_params(bank, numbers, named);
 }
 
 /* Another sample rate, tempo or scale for every voice. Refused by 4. */
 static inline uint32_t worfelli_bank_set_timing(worfelli_bank *bank, const worfelli_timing *timing)
 {
-    return worfelli_live_set_timing(bank->floats, bank->bends, bank->counts, bank->codes, timing->sample_rate,
-                                    timing->tempo, timing->scale);
+    return worfelli_live_set_timing(bank, timing->sample_rate, timing->tempo, timing->scale);
 }
 
 /* A note starts on a voice: WORFELLI_NEW, WORFELLI_RETRIGGER or WORFELLI_LEGATO. Refused by 10 and 2. */
 static inline uint32_t worfelli_bank_trigger(worfelli_bank *bank, size_t voice, uint32_t kind)
 {
-    return worfelli_live_trigger(bank->floats, bank->bends, bank->counts, bank->codes, voice, kind);
+    return worfelli_live_trigger(bank, voice, kind);
 }
 
 /* The note of a voice ends. Refused by 2, as the two calls below. */
 static inline uint32_t worfelli_bank_release(worfelli_bank *bank, size_t voice)
 {
-    return worfelli_live_release(bank->floats, bank->bends, bank->counts, bank->codes, voice);
+    return worfelli_live_release(bank, voice);
 }
 
 /* A voice is idle at once, at its end level. */
 static inline uint32_t worfelli_bank_reset(worfelli_bank *bank, size_t voice)
 {
-    return worfelli_live_reset(bank->floats, bank->bends, bank->counts, bank->codes, voice);
+    return worfelli_live_reset(bank, voice);
 }
 
 /* A voice becomes a copy of `from` as that stands now, settings included. */
 static inline uint32_t worfelli_bank_join(worfelli_bank *bank, size_t voice, size_t from)
 {
-    return worfelli_live_join(bank->floats, bank->bends, bank->counts, bank->codes, voice, from);
+    return worfelli_live_join(bank, voice, from);
 }
 
 /* Writes the next levels / stride frames of every voice, frame after frame: the voices in their order,
@@ -260,18 +245,18 @@ static inline uint32_t worfelli_bank_join(worfelli_bank *bank, size_t voice, siz
  * level. */
 static inline uint32_t worfelli_bank_process(worfelli_bank *bank, float *out, size_t levels)
 {
-    return worfelli_live_process(bank->floats, bank->bends, bank->counts, bank->codes, out, levels);
+    return worfelli_live_process(bank, out, levels);
 }
 
 /* How many voices there are, and levels in a frame. */
 static inline size_t worfelli_bank_voices(const worfelli_bank *bank)
 {
-    return worfelli_live_voices(bank->floats, bank->bends, bank->counts, bank->codes);
+    return worfelli_live_voices(bank);
 }
 
 static inline size_t worfelli_bank_stride(const worfelli_bank *bank)
 {
-    return worfelli_live_stride(bank->floats, bank->bends, bank->counts, bank->codes);
+    return worfelli_live_stride(bank);
 }
 
 /* A voice's settings. Refused by 2, as the readings below. */
@@ -279,8 +264,7 @@ static inline uint32_t worfelli_bank_params(const worfelli_bank *bank, size_t vo
 {
     float numbers[11] = { 0.0f };
     uint32_t named[3] = { 0 };
-    const uint32_t refusal =
-        worfelli_live_params(bank->floats, bank->bends, bank->counts, bank->codes, voice, numbers, named);
+    const uint32_t refusal = worfelli_live_params(bank, voice, numbers, named);
     if (refusal == 0) {
         const worfelli_params read = { named[0],   numbers[0], numbers[1], numbers[2], numbers[3],
                                        numbers[4], numbers[5], numbers[6], numbers[7], numbers[8],
@@ -293,32 +277,32 @@ static inline uint32_t worfelli_bank_params(const worfelli_bank *bank, size_t vo
 /* Where a voice is, WORFELLI_IDLE to WORFELLI_RELEASE. */
 static inline uint32_t worfelli_bank_stage(const worfelli_bank *bank, size_t voice, uint32_t *stage)
 {
-    return worfelli_live_stage(bank->floats, bank->bends, bank->counts, bank->codes, voice, stage);
+    return worfelli_live_stage(bank, voice, stage);
 }
 
 /* The level that a voice hands out next. */
 static inline uint32_t worfelli_bank_level(const worfelli_bank *bank, size_t voice, float *level)
 {
-    return worfelli_live_level(bank->floats, bank->bends, bank->counts, bank->codes, voice, level);
+    return worfelli_live_level(bank, voice, level);
 }
 
 /* 1 if a voice is idle, else 0. */
 static inline uint32_t worfelli_bank_is_idle(const worfelli_bank *bank, size_t voice, uint32_t *idle)
 {
-    return worfelli_live_is_idle(bank->floats, bank->bends, bank->counts, bank->codes, voice, idle);
+    return worfelli_live_is_idle(bank, voice, idle);
 }
 
 /* 0 when a voice is idle, else its release's count of frames. */
 static inline uint32_t worfelli_bank_tail(const worfelli_bank *bank, size_t voice, uint64_t *frames)
 {
-    return worfelli_live_tail(bank->floats, bank->bends, bank->counts, bank->codes, voice, frames);
+    return worfelli_live_tail(bank, voice, frames);
 }
 
 /* The frames until a voice's sustain, were only frames to follow; 0 when it is idle, sustains or
  * releases. */
 static inline uint32_t worfelli_bank_lead(const worfelli_bank *bank, size_t voice, uint64_t *frames)
 {
-    return worfelli_live_lead(bank->floats, bank->bends, bank->counts, bank->codes, voice, frames);
+    return worfelli_live_lead(bank, voice, frames);
 }
 
 /* ---- whole lists ---- */

@@ -21,7 +21,7 @@ pub struct LiveBank {
 pub const BYTES: usize = 9088;
 
 /// The version of the header that this is written for.
-pub const VERSION: u32 = 1;
+pub const VERSION: u32 = 2;
 
 const _: () = assert!(size_of::<LiveBank>() == BYTES);
 

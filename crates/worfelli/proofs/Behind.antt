@@ -1,10 +1,36 @@
 -- What a reading over C answers and leaves behind its pointer, from the reply of the bank's own reading: one law for every kind of value.
-use mathlib.Core.Path.{◌≡◌, ap, ◌∙◌}
+use mathlib.Core.Path.{◌≡◌, refl, sym, ap, ◌∙◌}
 use Prim.Native.Nat.{ℕ}
-use Rattle.bank.specs.Replies.{Reply}
-use Rattle.worfelli.specs.Told.{refusal}
+use Rattle.std.specs.Prelude.{Result, Ok, Err, MatchResult}
+use Rattle.std.specs.Result.{IsOkAnd}
+use Rattle.settings.specs.declared.refusals.Refusal.{Refusal}
+use Rattle.settings.specs.Refusals.{number_of}
+use Rattle.bank.specs.Replies.{Reply, of_reading}
+use Rattle.worfelli.specs.Told.{refusal, or}
 
--- The reading replied x, which is y; f says what a reply leaves where `was` stood.
-pub behind : {A : Type 0} (f : Reply → A → A) (x y : Reply) → x ≡ y → (r : ℕ) (was after : A) → r ≡ refusal x → after ≡ f x was
-    → (r ≡ refusal y) × (after ≡ f y was)
-behind f x y e r was after p q = (p ∙ ap refusal e, q ∙ ap (λ z. f z was) e)
+-- A reading whose value is taken as it is.
+pub same : {A : Type 0} (r : Result A Refusal) → MatchResult r (λ x. r ≡ Ok x) (λ e. r ≡ Err e)
+same (Ok x) = refl
+same (Err e) = refl
+
+-- A reading whose value is turned into another.
+pub mapped : {A B : Type 0} (r : Result A Refusal) (s : Result B Refusal) (P : A → B → Type 0) (out : A → B) → MatchResult r (λ x. IsOkAnd s (P x)) (λ e. s ≡ Err e)
+    → ((x : A) (y : B) → P x y → y ≡ out x) → MatchResult r (λ x. s ≡ Ok (out x)) (λ e. s ≡ Err e)
+mapped (Ok x) (Ok y) P out h f = ap Ok (f x y h)
+mapped (Ok x) (Err e) P out h f = absurd h
+mapped (Err e) s P out h f = h
+
+-- The bank's reading r replies y, by `tell`; C has s of it, a value x being `out x`; and `value` says what a reply leaves where `was` stood.
+module _ {A B : Type 0} (tell : A → Reply) (out : A → B) (value : Reply → B → B) where
+  pub record Values : Type 0 where
+    pub accepted : (x : A) → refusal (tell x) ≡ 0
+    pub told : (x : A) (was : B) → value (tell x) was ≡ out x
+    pub refused : (n : ℕ) (was : B) → value (Reply.refused n) was ≡ was
+
+  pub behind : Values → (r : Result A Refusal) (y : Reply) → of_reading tell r ≡ y → (s : Result B Refusal) → MatchResult r (λ x. s ≡ Ok (out x)) (λ e. s ≡ Err e)
+      → (n : ℕ) (was after : B) → n ≡ number_of s → after ≡ or s was → (n ≡ refusal y) × (after ≡ value y was)
+  unfolding of_reading refusal
+  behind V (Ok x) y e s m n was after p q =
+      (p ∙ ap number_of m ∙ sym (V.accepted x) ∙ ap refusal e, q ∙ ap (λ (s : Result B Refusal). or s was) m ∙ sym (V.told x was) ∙ ap (λ (y : Reply). value y was) e)
+  behind V (Err x) y e s m n was after p q =
+      (p ∙ ap number_of m ∙ ap refusal e, q ∙ ap (λ (s : Result B Refusal). or s was) m ∙ sym (V.refused _ was) ∙ ap (λ (y : Reply). value y was) e)

@@ -1,5 +1,6 @@
 -- What a reading over C answers, and what it leaves behind the pointer that it is given: the value told, or what was there if it is refused.
-use Rattle.std.specs.Prelude.{ℕ, List, Float}
+use Rattle.std.specs.Prelude.{ℕ, List, Float, Result, Ok, Err}
+use Rattle.settings.specs.declared.refusals.Refusal.{Refusal}
 use Rattle.memory.specs.Memory.{stage_code, flag_code}
 use Rattle.memory.specs.Spaced.{puts}
 use Rattle.bank.specs.Replies.{Reply}
@@ -58,3 +59,8 @@ number (Reply.stage s) was = stage_code s
 number (Reply.level x) was = was
 number (Reply.is_idle x) was = flag_code x
 number (Reply.count n) was = n
+
+-- What a reading leaves where `was` stood.
+abbrev pub or : {A : Type 0} → Result A Refusal → A → A
+or (Ok x) was = x
+or (Err r) was = was

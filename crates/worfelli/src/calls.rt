@@ -1,6 +1,5 @@
 // A live bank's calls: the bank's own, with settings and kinds of trigger as numbers and codes.
 ghost use Rattle.std.specs.Prelude.{◌≡◌, ltb, length};
-ghost use Rattle.memory.specs.Memory as Memory;
 ghost use Rattle.bank.specs.Banks as Banks;
 ghost use Rattle.bank.specs.Calls as Calls;
 ghost use Rattle.bank.specs.Calls.{Call};
@@ -10,17 +9,19 @@ ghost use Rattle.worfelli.specs.Coded as Coded;
 ghost use Rattle.worfelli.specs.Live as Live;
 
 use crate::coded;
-use memory::{Bends, Codes, Counts, Floats};
-use settings::{EnvelopeParams, UNNAMED_CODE};
+use bank::Bank;
+use settings::{EnvelopeParams, number_of};
 use timing::Timing;
 
+// Settings and timing stay numbers apart: the form as structs is no plainer, since what is said of
+// settings is said of such lists, and a Timing of Rattle's own lies in no order that C knows.
 fn timing_of(sample_rate: f64, tempo: f64, scale: f64) -> Timing
     ensures { result ≡ Live.timing sample_rate tempo scale }
 {
     Timing {
-        sample_rate: sample_rate,
-        tempo: tempo,
-        scale: scale,
+        sample_rate,
+        tempo,
+        scale,
     }
 }
 
@@ -28,10 +29,7 @@ fn timing_of(sample_rate: f64, tempo: f64, scale: f64) -> Timing
 // of no voices, AMP and Timing::new(0.0).
 #[unsafe(no_mangle)]
 pub extern "C" fn worfelli_live_open(
-    f: &mut Floats,
-    k: &mut Bends,
-    n: &mut Counts,
-    c: &mut Codes,
+    bank: &mut Bank,
     voices: usize,
     numbers: &[f32; 11],
     codes: &[u32; 3],
@@ -40,166 +38,118 @@ pub extern "C" fn worfelli_live_open(
     scale: f64,
 ) -> u32
     ensures refusal { result ≡ Live.opening_refusal (Coded.named codes.now) (Calls.opening voices (Coded.params numbers.now codes.now) (Live.timing sample_rate tempo scale)) }
-    ensures bank { Banks.bank_of (Memory.arrays f.new k.new n.new c.new) ≡ (Banks.new (Live.asked (Coded.named codes.now) (Calls.opening voices (Coded.params numbers.now codes.now) (Live.timing sample_rate tempo scale)))).bank }
-    ensures kept { Lent.KeptFrom (Calls.opened (Live.asked (Coded.named codes.now) (Calls.opening voices (Coded.params numbers.now codes.now) (Live.timing sample_rate tempo scale)))).voices (Memory.arrays f.old k.old n.old c.old) (Memory.arrays f.new k.new n.new c.new) }
+    ensures bank { Banks.bank_of bank.new.arrays ≡ (Banks.new (Live.asked (Coded.named codes.now) (Calls.opening voices (Coded.params numbers.now codes.now) (Live.timing sample_rate tempo scale)))).bank }
+    ensures kept { Lent.KeptFrom (Calls.opened (Live.asked (Coded.named codes.now) (Calls.opening voices (Coded.params numbers.now codes.now) (Live.timing sample_rate tempo scale)))).voices bank.old.arrays bank.new.arrays }
 {
-    if coded::named(codes) {
-        let params = coded::params(numbers, codes);
-        return bank::open(
-            f,
-            k,
-            n,
-            c,
-            voices,
-            params,
-            timing_of(sample_rate, tempo, scale),
-        );
+    match coded::params(numbers, codes) {
+        Ok(params) => number_of(bank.open(voices, params, timing_of(sample_rate, tempo, scale))),
+        Err(refusal) => {
+            let _ = bank.open(0, EnvelopeParams::AMP, Timing::new(0.0));
+            refusal.number()
+        }
     }
-    bank::open(f, k, n, c, 0, EnvelopeParams::AMP, Timing::new(0.0));
-    UNNAMED_CODE
 }
 
 // New settings for a voice. Refused: 10, 2, 3.
 #[unsafe(no_mangle)]
 pub extern "C" fn worfelli_live_set_params(
-    f: &mut Floats,
-    k: &mut Bends,
-    n: &mut Counts,
-    c: &mut Codes,
+    bank: &mut Bank,
     voice: usize,
     numbers: &[f32; 11],
     codes: &[u32; 3],
 ) -> u32
-    ensures refusal { result ≡ (Live.answer (Coded.named codes.now) (Banks.bank_of (Memory.arrays f.old k.old n.old c.old)) (Call.set_params voice (Coded.params numbers.now codes.now))).refusal }
-    ensures bank { Banks.bank_of (Memory.arrays f.new k.new n.new c.new) ≡ (Live.answer (Coded.named codes.now) (Banks.bank_of (Memory.arrays f.old k.old n.old c.old)) (Call.set_params voice (Coded.params numbers.now codes.now))).bank }
-    ensures kept { Lent.Kept result (Memory.arrays f.old k.old n.old c.old) (Memory.arrays f.new k.new n.new c.new) }
+    ensures refusal { result ≡ (Live.answer (Coded.named codes.now) (Banks.bank_of bank.old.arrays) (Call.set_params voice (Coded.params numbers.now codes.now))).refusal }
+    ensures bank { Banks.bank_of bank.new.arrays ≡ (Live.answer (Coded.named codes.now) (Banks.bank_of bank.old.arrays) (Call.set_params voice (Coded.params numbers.now codes.now))).bank }
+    ensures kept { Lent.Kept result bank.old.arrays bank.new.arrays }
 {
-    if coded::named(codes) {
-        return bank::set_params(f, k, n, c, voice, coded::params(numbers, codes));
+    match coded::params(numbers, codes) {
+        Ok(params) => number_of(bank.set_params(voice, params)),
+        Err(refusal) => refusal.number(),
     }
-    UNNAMED_CODE
 }
 
 // New settings for every voice. Refused: 10, 3.
 #[unsafe(no_mangle)]
 pub extern "C" fn worfelli_live_set_all_params(
-    f: &mut Floats,
-    k: &mut Bends,
-    n: &mut Counts,
-    c: &mut Codes,
+    bank: &mut Bank,
     numbers: &[f32; 11],
     codes: &[u32; 3],
 ) -> u32
-    ensures refusal { result ≡ (Live.answer (Coded.named codes.now) (Banks.bank_of (Memory.arrays f.old k.old n.old c.old)) (Call.set_all_params (Coded.params numbers.now codes.now))).refusal }
-    ensures bank { Banks.bank_of (Memory.arrays f.new k.new n.new c.new) ≡ (Live.answer (Coded.named codes.now) (Banks.bank_of (Memory.arrays f.old k.old n.old c.old)) (Call.set_all_params (Coded.params numbers.now codes.now))).bank }
-    ensures kept { Lent.Kept result (Memory.arrays f.old k.old n.old c.old) (Memory.arrays f.new k.new n.new c.new) }
+    ensures refusal { result ≡ (Live.answer (Coded.named codes.now) (Banks.bank_of bank.old.arrays) (Call.set_all_params (Coded.params numbers.now codes.now))).refusal }
+    ensures bank { Banks.bank_of bank.new.arrays ≡ (Live.answer (Coded.named codes.now) (Banks.bank_of bank.old.arrays) (Call.set_all_params (Coded.params numbers.now codes.now))).bank }
+    ensures kept { Lent.Kept result bank.old.arrays bank.new.arrays }
 {
-    if coded::named(codes) {
-        return bank::set_all_params(f, k, n, c, coded::params(numbers, codes));
+    match coded::params(numbers, codes) {
+        Ok(params) => number_of(bank.set_all_params(params)),
+        Err(refusal) => refusal.number(),
     }
-    UNNAMED_CODE
 }
 
 // Another timing for every voice. Refused: 4.
 #[unsafe(no_mangle)]
 pub extern "C" fn worfelli_live_set_timing(
-    f: &mut Floats,
-    k: &mut Bends,
-    n: &mut Counts,
-    c: &mut Codes,
+    bank: &mut Bank,
     sample_rate: f64,
     tempo: f64,
     scale: f64,
 ) -> u32
-    ensures refusal { result ≡ (Banks.answer (Banks.bank_of (Memory.arrays f.old k.old n.old c.old)) (Call.set_timing (Live.timing sample_rate tempo scale))).refusal }
-    ensures bank { Banks.bank_of (Memory.arrays f.new k.new n.new c.new) ≡ (Banks.answer (Banks.bank_of (Memory.arrays f.old k.old n.old c.old)) (Call.set_timing (Live.timing sample_rate tempo scale))).bank }
-    ensures kept { Lent.Kept result (Memory.arrays f.old k.old n.old c.old) (Memory.arrays f.new k.new n.new c.new) }
+    ensures refusal { result ≡ (Banks.answer (Banks.bank_of bank.old.arrays) (Call.set_timing (Live.timing sample_rate tempo scale))).refusal }
+    ensures bank { Banks.bank_of bank.new.arrays ≡ (Banks.answer (Banks.bank_of bank.old.arrays) (Call.set_timing (Live.timing sample_rate tempo scale))).bank }
+    ensures kept { Lent.Kept result bank.old.arrays bank.new.arrays }
 {
-    bank::set_timing(f, k, n, c, timing_of(sample_rate, tempo, scale))
+    number_of(bank.set_timing(timing_of(sample_rate, tempo, scale)))
 }
 
 // A note for a voice, by its kind of trigger: 0 new, 1 retrigger, 2 legato. Refused: 10, 2.
 #[unsafe(no_mangle)]
-pub extern "C" fn worfelli_live_trigger(
-    f: &mut Floats,
-    k: &mut Bends,
-    n: &mut Counts,
-    c: &mut Codes,
-    voice: usize,
-    kind: u32,
-) -> u32
-    ensures refusal { result ≡ (Live.answer (ltb kind 3) (Banks.bank_of (Memory.arrays f.old k.old n.old c.old)) (Call.trigger voice (Format.kind kind))).refusal }
-    ensures bank { Banks.bank_of (Memory.arrays f.new k.new n.new c.new) ≡ (Live.answer (ltb kind 3) (Banks.bank_of (Memory.arrays f.old k.old n.old c.old)) (Call.trigger voice (Format.kind kind))).bank }
-    ensures kept { Lent.Kept result (Memory.arrays f.old k.old n.old c.old) (Memory.arrays f.new k.new n.new c.new) }
+pub extern "C" fn worfelli_live_trigger(bank: &mut Bank, voice: usize, kind: u32) -> u32
+    ensures refusal { result ≡ (Live.answer (ltb kind 3) (Banks.bank_of bank.old.arrays) (Call.trigger voice (Format.kind kind))).refusal }
+    ensures bank { Banks.bank_of bank.new.arrays ≡ (Live.answer (ltb kind 3) (Banks.bank_of bank.old.arrays) (Call.trigger voice (Format.kind kind))).bank }
+    ensures kept { Lent.Kept result bank.old.arrays bank.new.arrays }
 {
-    if kind < 3 {
-        return bank::trigger(f, k, n, c, voice, coded::kind(kind));
+    match coded::trigger(kind) {
+        Ok(trigger) => number_of(bank.trigger(voice, trigger)),
+        Err(refusal) => refusal.number(),
     }
-    UNNAMED_CODE
 }
 
 // The end of a voice's note. Refused, as the two calls below: 2.
 #[unsafe(no_mangle)]
-pub extern "C" fn worfelli_live_release(
-    f: &mut Floats,
-    k: &mut Bends,
-    n: &mut Counts,
-    c: &mut Codes,
-    voice: usize,
-) -> u32
-    ensures refusal { result ≡ (Banks.answer (Banks.bank_of (Memory.arrays f.old k.old n.old c.old)) (Call.release voice)).refusal }
-    ensures bank { Banks.bank_of (Memory.arrays f.new k.new n.new c.new) ≡ (Banks.answer (Banks.bank_of (Memory.arrays f.old k.old n.old c.old)) (Call.release voice)).bank }
-    ensures kept { Lent.Kept result (Memory.arrays f.old k.old n.old c.old) (Memory.arrays f.new k.new n.new c.new) }
+pub extern "C" fn worfelli_live_release(bank: &mut Bank, voice: usize) -> u32
+    ensures refusal { result ≡ (Banks.answer (Banks.bank_of bank.old.arrays) (Call.release voice)).refusal }
+    ensures bank { Banks.bank_of bank.new.arrays ≡ (Banks.answer (Banks.bank_of bank.old.arrays) (Call.release voice)).bank }
+    ensures kept { Lent.Kept result bank.old.arrays bank.new.arrays }
 {
-    bank::release(f, k, n, c, voice)
+    number_of(bank.release(voice))
 }
 
 // Idle for a voice, with no release before it.
 #[unsafe(no_mangle)]
-pub extern "C" fn worfelli_live_reset(
-    f: &mut Floats,
-    k: &mut Bends,
-    n: &mut Counts,
-    c: &mut Codes,
-    voice: usize,
-) -> u32
-    ensures refusal { result ≡ (Banks.answer (Banks.bank_of (Memory.arrays f.old k.old n.old c.old)) (Call.reset voice)).refusal }
-    ensures bank { Banks.bank_of (Memory.arrays f.new k.new n.new c.new) ≡ (Banks.answer (Banks.bank_of (Memory.arrays f.old k.old n.old c.old)) (Call.reset voice)).bank }
-    ensures kept { Lent.Kept result (Memory.arrays f.old k.old n.old c.old) (Memory.arrays f.new k.new n.new c.new) }
+pub extern "C" fn worfelli_live_reset(bank: &mut Bank, voice: usize) -> u32
+    ensures refusal { result ≡ (Banks.answer (Banks.bank_of bank.old.arrays) (Call.reset voice)).refusal }
+    ensures bank { Banks.bank_of bank.new.arrays ≡ (Banks.answer (Banks.bank_of bank.old.arrays) (Call.reset voice)).bank }
+    ensures kept { Lent.Kept result bank.old.arrays bank.new.arrays }
 {
-    bank::reset(f, k, n, c, voice)
+    number_of(bank.reset(voice))
 }
 
 // The first voice becomes a copy of the second.
 #[unsafe(no_mangle)]
-pub extern "C" fn worfelli_live_join(
-    f: &mut Floats,
-    k: &mut Bends,
-    n: &mut Counts,
-    c: &mut Codes,
-    voice: usize,
-    from: usize,
-) -> u32
-    ensures refusal { result ≡ (Banks.answer (Banks.bank_of (Memory.arrays f.old k.old n.old c.old)) (Call.join voice from)).refusal }
-    ensures bank { Banks.bank_of (Memory.arrays f.new k.new n.new c.new) ≡ (Banks.answer (Banks.bank_of (Memory.arrays f.old k.old n.old c.old)) (Call.join voice from)).bank }
-    ensures kept { Lent.Kept result (Memory.arrays f.old k.old n.old c.old) (Memory.arrays f.new k.new n.new c.new) }
+pub extern "C" fn worfelli_live_join(bank: &mut Bank, voice: usize, from: usize) -> u32
+    ensures refusal { result ≡ (Banks.answer (Banks.bank_of bank.old.arrays) (Call.join voice from)).refusal }
+    ensures bank { Banks.bank_of bank.new.arrays ≡ (Banks.answer (Banks.bank_of bank.old.arrays) (Call.join voice from)).bank }
+    ensures kept { Lent.Kept result bank.old.arrays bank.new.arrays }
 {
-    bank::join(f, k, n, c, voice, from)
+    number_of(bank.join(voice, from))
 }
 
 // The next frames of every voice. Refused: 5 an output that is not whole frames.
 #[unsafe(no_mangle)]
-pub extern "C" fn worfelli_live_process(
-    f: &mut Floats,
-    k: &mut Bends,
-    n: &mut Counts,
-    c: &mut Codes,
-    out: &mut [f32],
-) -> u32
-    ensures refusal { result ≡ (Banks.answer (Banks.bank_of (Memory.arrays f.old k.old n.old c.old)) (Call.process (length out.old))).refusal }
-    ensures bank { Banks.bank_of (Memory.arrays f.new k.new n.new c.new) ≡ (Banks.answer (Banks.bank_of (Memory.arrays f.old k.old n.old c.old)) (Call.process (length out.old))).bank }
-    ensures levels { out.new ≡ Banks.written (Banks.bank_of (Memory.arrays f.old k.old n.old c.old)) out.old }
-    ensures kept { Lent.Processed result (Memory.arrays f.old k.old n.old c.old) (Memory.arrays f.new k.new n.new c.new) }
+pub extern "C" fn worfelli_live_process(bank: &mut Bank, out: &mut [f32]) -> u32
+    ensures refusal { result ≡ (Banks.answer (Banks.bank_of bank.old.arrays) (Call.process (length out.old))).refusal }
+    ensures bank { Banks.bank_of bank.new.arrays ≡ (Banks.answer (Banks.bank_of bank.old.arrays) (Call.process (length out.old))).bank }
+    ensures levels { out.new ≡ Banks.written (Banks.bank_of bank.old.arrays) out.old }
+    ensures kept { Lent.Processed result bank.old.arrays bank.new.arrays }
 {
-    bank::process(f, k, n, c, out)
+    number_of(bank.process(out))
 }

@@ -1,12 +1,9 @@
 //! A live bank: up to 64 envelopes under one clock, called note by note and block by block.
-//!
-//! Each call gets the bank's four arrays in the library's order: f, k, n and c are its floats, bends, counts
-//! and codes.
 
 use std::error::Error;
 use std::fmt;
 
-use crate::raw::{self, Bends, Codes, Counts, Floats, State, in_default_mode};
+use crate::raw::{self, State, in_default_mode};
 use crate::{EnvelopeParams, Refusal, Stage, Timing, Trigger};
 
 /// A bank of up to 64 voices, for an audio thread.
@@ -57,8 +54,8 @@ impl EnvelopeBank {
         let mut bank = Self {
             state: State::new(),
         };
-        bank.change(|f, k, n, c| {
-            raw::worfelli_live_open(f, k, n, c, voices, &numbers, &codes, rate, tempo, scale)
+        bank.change(|state| {
+            raw::worfelli_live_open(state, voices, &numbers, &codes, rate, tempo, scale)
         })?;
         Ok(bank)
     }
@@ -67,16 +64,14 @@ impl EnvelopeBank {
     #[must_use]
     #[inline]
     pub fn voices(&self) -> usize {
-        let state = &self.state;
-        raw::worfelli_live_voices(&state.floats, &state.bends, &state.counts, &state.codes)
+        raw::worfelli_live_voices(&self.state)
     }
 
     /// Levels in a frame: the voices rounded up to a multiple of 16, and at least 16.
     #[must_use]
     #[inline]
     pub fn stride(&self) -> usize {
-        let state = &self.state;
-        raw::worfelli_live_stride(&state.floats, &state.bends, &state.counts, &state.codes)
+        raw::worfelli_live_stride(&self.state)
     }
 
     /// A voice's settings.
@@ -85,8 +80,8 @@ impl EnvelopeBank {
     ///
     /// [`NoSuchVoice`](Refusal::NoSuchVoice), as every method that names a voice.
     pub fn params(&self, voice: usize) -> Result<EnvelopeParams, Refusal> {
-        let (numbers, codes) = self.read(|f, k, n, c, (numbers, codes)| {
-            raw::worfelli_live_params(f, k, n, c, voice, numbers, codes)
+        let (numbers, codes) = self.read(|state, (numbers, codes)| {
+            raw::worfelli_live_params(state, voice, numbers, codes)
         })?;
         Ok(known(EnvelopeParams::of_parts(numbers, codes)))
     }
@@ -98,7 +93,7 @@ impl EnvelopeBank {
     /// [`NoSuchVoice`](Refusal::NoSuchVoice), and then [`TimeOver`](Refusal::TimeOver).
     pub fn set_params(&mut self, voice: usize, params: EnvelopeParams) -> Result<(), Refusal> {
         let (numbers, codes) = (params.numbers(), params.codes());
-        self.change(|f, k, n, c| raw::worfelli_live_set_params(f, k, n, c, voice, &numbers, &codes))
+        self.change(|state| raw::worfelli_live_set_params(state, voice, &numbers, &codes))
     }
 
     /// New settings for every voice.
@@ -108,7 +103,7 @@ impl EnvelopeBank {
     /// [`TimeOver`](Refusal::TimeOver).
     pub fn set_all_params(&mut self, params: EnvelopeParams) -> Result<(), Refusal> {
         let (numbers, codes) = (params.numbers(), params.codes());
-        self.change(|f, k, n, c| raw::worfelli_live_set_all_params(f, k, n, c, &numbers, &codes))
+        self.change(|state| raw::worfelli_live_set_all_params(state, &numbers, &codes))
     }
 
     /// Another sample rate, tempo or scale for every voice.
@@ -122,7 +117,7 @@ impl EnvelopeBank {
             tempo,
             scale,
         } = timing;
-        self.change(|f, k, n, c| raw::worfelli_live_set_timing(f, k, n, c, rate, tempo, scale))
+        self.change(|state| raw::worfelli_live_set_timing(state, rate, tempo, scale))
     }
 
     /// A note starts on a voice.
@@ -132,7 +127,7 @@ impl EnvelopeBank {
     /// [`NoSuchVoice`](Refusal::NoSuchVoice).
     #[inline]
     pub fn trigger(&mut self, voice: usize, trigger: Trigger) -> Result<(), Refusal> {
-        self.change(|f, k, n, c| raw::worfelli_live_trigger(f, k, n, c, voice, trigger as u32))
+        self.change(|state| raw::worfelli_live_trigger(state, voice, trigger as u32))
     }
 
     /// The note of a voice ends.
@@ -142,7 +137,7 @@ impl EnvelopeBank {
     /// [`NoSuchVoice`](Refusal::NoSuchVoice).
     #[inline]
     pub fn release(&mut self, voice: usize) -> Result<(), Refusal> {
-        self.change(|f, k, n, c| raw::worfelli_live_release(f, k, n, c, voice))
+        self.change(|state| raw::worfelli_live_release(state, voice))
     }
 
     /// A voice is idle at once, at its end level.
@@ -152,7 +147,7 @@ impl EnvelopeBank {
     /// [`NoSuchVoice`](Refusal::NoSuchVoice).
     #[inline]
     pub fn reset(&mut self, voice: usize) -> Result<(), Refusal> {
-        self.change(|f, k, n, c| raw::worfelli_live_reset(f, k, n, c, voice))
+        self.change(|state| raw::worfelli_live_reset(state, voice))
     }
 
     /// A voice becomes a copy of `from` as that stands now, settings included.
@@ -162,7 +157,7 @@ impl EnvelopeBank {
     /// [`NoSuchVoice`](Refusal::NoSuchVoice), of either voice.
     #[inline]
     pub fn join(&mut self, voice: usize, from: usize) -> Result<(), Refusal> {
-        self.change(|f, k, n, c| raw::worfelli_live_join(f, k, n, c, voice, from))
+        self.change(|state| raw::worfelli_live_join(state, voice, from))
     }
 
     /// Where a voice is.
@@ -172,7 +167,7 @@ impl EnvelopeBank {
     /// [`NoSuchVoice`](Refusal::NoSuchVoice).
     #[inline]
     pub fn stage(&self, voice: usize) -> Result<Stage, Refusal> {
-        self.read(|f, k, n, c, code| raw::worfelli_live_stage(f, k, n, c, voice, code))
+        self.read(|state, code| raw::worfelli_live_stage(state, voice, code))
             .map(|code| known(Stage::coded(code)))
     }
 
@@ -183,7 +178,7 @@ impl EnvelopeBank {
     /// [`NoSuchVoice`](Refusal::NoSuchVoice).
     #[inline]
     pub fn level(&self, voice: usize) -> Result<f32, Refusal> {
-        self.compute(|f, k, n, c, level| raw::worfelli_live_level(f, k, n, c, voice, level))
+        self.compute(|state, level| raw::worfelli_live_level(state, voice, level))
     }
 
     /// Whether a voice is idle.
@@ -193,7 +188,7 @@ impl EnvelopeBank {
     /// [`NoSuchVoice`](Refusal::NoSuchVoice).
     #[inline]
     pub fn is_idle(&self, voice: usize) -> Result<bool, Refusal> {
-        self.read(|f, k, n, c, idle| raw::worfelli_live_is_idle(f, k, n, c, voice, idle))
+        self.read(|state, idle| raw::worfelli_live_is_idle(state, voice, idle))
             .map(|idle| idle != 0)
     }
 
@@ -204,7 +199,7 @@ impl EnvelopeBank {
     /// [`NoSuchVoice`](Refusal::NoSuchVoice).
     #[inline]
     pub fn tail(&self, voice: usize) -> Result<u64, Refusal> {
-        self.compute(|f, k, n, c, frames| raw::worfelli_live_tail(f, k, n, c, voice, frames))
+        self.compute(|state, frames| raw::worfelli_live_tail(state, voice, frames))
     }
 
     /// The frames until a voice's sustain, were only frames to follow; 0 when it is idle, sustains or
@@ -215,7 +210,7 @@ impl EnvelopeBank {
     /// [`NoSuchVoice`](Refusal::NoSuchVoice).
     #[inline]
     pub fn lead(&self, voice: usize) -> Result<u64, Refusal> {
-        self.compute(|f, k, n, c, frames| raw::worfelli_live_lead(f, k, n, c, voice, frames))
+        self.compute(|state, frames| raw::worfelli_live_lead(state, voice, frames))
     }
 
     /// Fills `out` with the next frames: `out[k * stride + v]` is voice v's level in frame k, and spare
@@ -270,43 +265,23 @@ impl EnvelopeBank {
     }
 
     /// A call that may change the bank.
-    fn change(
-        &mut self,
-        mut call: impl FnMut(&mut Floats, &mut Bends, &mut Counts, &mut Codes) -> u32,
-    ) -> Result<(), Refusal> {
-        let State {
-            bends,
-            counts,
-            floats,
-            codes,
-            ..
-        } = &mut self.state;
-        Refusal::unless_accepted(in_default_mode(|| call(floats, bends, counts, codes)))
+    fn change(&mut self, mut call: impl FnMut(&mut State) -> u32) -> Result<(), Refusal> {
+        Refusal::unless_accepted(in_default_mode(|| call(&mut self.state)))
     }
 
     /// A reading for which the library computes: what it writes if it accepts.
     fn compute<T: Default>(
         &self,
-        mut call: impl FnMut(&Floats, &Bends, &Counts, &Codes, &mut T) -> u32,
+        mut call: impl FnMut(&State, &mut T) -> u32,
     ) -> Result<T, Refusal> {
-        self.read(|f, k, n, c, answer| in_default_mode(|| call(f, k, n, c, answer)))
+        self.read(|state, answer| in_default_mode(|| call(state, answer)))
     }
 
     /// A reading in the mode that the thread has. For settings, stage and idleness, as for voices and
     /// stride, the library only moves numbers and compares whole ones, which no mode changes.
-    fn read<T: Default>(
-        &self,
-        call: impl FnOnce(&Floats, &Bends, &Counts, &Codes, &mut T) -> u32,
-    ) -> Result<T, Refusal> {
-        let State {
-            bends,
-            counts,
-            floats,
-            codes,
-            ..
-        } = &self.state;
+    fn read<T: Default>(&self, call: impl FnOnce(&State, &mut T) -> u32) -> Result<T, Refusal> {
         let mut answer = T::default();
-        Refusal::unless_accepted(call(floats, bends, counts, codes, &mut answer))?;
+        Refusal::unless_accepted(call(&self.state, &mut answer))?;
         Ok(answer)
     }
 }

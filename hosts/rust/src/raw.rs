@@ -4,25 +4,21 @@
 use std::arch::asm;
 
 /// The version of include/worfelli.h that this file follows.
-pub(crate) const VERSION: u32 = 1;
+pub(crate) const VERSION: u32 = 2;
 
 const BENDS: usize = 131;
 const COUNTS: usize = 192;
 const FLOATS: usize = 1236;
 const CODES: usize = 389;
-pub(crate) type Bends = [f64; BENDS];
-pub(crate) type Counts = [u64; COUNTS];
-pub(crate) type Floats = [f32; FLOATS];
-pub(crate) type Codes = [u32; CODES];
 
 /// A `worfelli_bank`. Whatever bytes stand in it are some bank.
 #[derive(Clone)]
 #[repr(C)]
 pub(crate) struct State {
-    pub(crate) bends: Bends,
-    pub(crate) counts: Counts,
-    pub(crate) floats: Floats,
-    pub(crate) codes: Codes,
+    bends: [f64; BENDS],
+    counts: [u64; COUNTS],
+    floats: [f32; FLOATS],
+    codes: [u32; CODES],
     pub(crate) version: u32,
 }
 
@@ -34,17 +30,14 @@ const _: () = assert!(size_of::<State>() == SIZE);
 const _: () = assert!(8 * (BENDS + COUNTS) + 4 * (FLOATS + CODES + 1) == SIZE);
 
 // SAFETY: these are the header's declarations. A size_t and a uint64_t are both a usize on x86-64. A
-// function that is safe takes nothing but numbers, and arrays of the lengths that the header gives; a
+// function that is safe takes nothing but numbers, banks, and arrays of the lengths that the header gives; a
 // reference to an array is a pointer to its first number, and what is lent mutably overlaps nothing else.
 unsafe extern "C" {
     safe fn worfelli_version() -> u32;
     safe fn worfelli_bank_size() -> usize;
 
     pub(crate) safe fn worfelli_live_open(
-        floats: &mut Floats,
-        bends: &mut Bends,
-        counts: &mut Counts,
-        codes: &mut Codes,
+        bank: &mut State,
         voices: usize,
         numbers: &[f32; 11],
         named: &[u32; 3],
@@ -53,131 +46,41 @@ unsafe extern "C" {
         scale: f64,
     ) -> u32;
     pub(crate) safe fn worfelli_live_set_params(
-        floats: &mut Floats,
-        bends: &mut Bends,
-        counts: &mut Counts,
-        codes: &mut Codes,
+        bank: &mut State,
         voice: usize,
         numbers: &[f32; 11],
         named: &[u32; 3],
     ) -> u32;
     pub(crate) safe fn worfelli_live_set_all_params(
-        floats: &mut Floats,
-        bends: &mut Bends,
-        counts: &mut Counts,
-        codes: &mut Codes,
+        bank: &mut State,
         numbers: &[f32; 11],
         named: &[u32; 3],
     ) -> u32;
     pub(crate) safe fn worfelli_live_set_timing(
-        floats: &mut Floats,
-        bends: &mut Bends,
-        counts: &mut Counts,
-        codes: &mut Codes,
+        bank: &mut State,
         sample_rate: f64,
         tempo: f64,
         scale: f64,
     ) -> u32;
-    pub(crate) safe fn worfelli_live_trigger(
-        floats: &mut Floats,
-        bends: &mut Bends,
-        counts: &mut Counts,
-        codes: &mut Codes,
-        voice: usize,
-        kind: u32,
-    ) -> u32;
-    pub(crate) safe fn worfelli_live_release(
-        floats: &mut Floats,
-        bends: &mut Bends,
-        counts: &mut Counts,
-        codes: &mut Codes,
-        voice: usize,
-    ) -> u32;
-    pub(crate) safe fn worfelli_live_reset(
-        floats: &mut Floats,
-        bends: &mut Bends,
-        counts: &mut Counts,
-        codes: &mut Codes,
-        voice: usize,
-    ) -> u32;
-    pub(crate) safe fn worfelli_live_join(
-        floats: &mut Floats,
-        bends: &mut Bends,
-        counts: &mut Counts,
-        codes: &mut Codes,
-        voice: usize,
-        from: usize,
-    ) -> u32;
-    fn worfelli_live_process(
-        floats: &mut Floats,
-        bends: &mut Bends,
-        counts: &mut Counts,
-        codes: &mut Codes,
-        out: *mut f32,
-        levels: usize,
-    ) -> u32;
+    pub(crate) safe fn worfelli_live_trigger(bank: &mut State, voice: usize, kind: u32) -> u32;
+    pub(crate) safe fn worfelli_live_release(bank: &mut State, voice: usize) -> u32;
+    pub(crate) safe fn worfelli_live_reset(bank: &mut State, voice: usize) -> u32;
+    pub(crate) safe fn worfelli_live_join(bank: &mut State, voice: usize, from: usize) -> u32;
+    fn worfelli_live_process(bank: &mut State, out: *mut f32, levels: usize) -> u32;
 
-    pub(crate) safe fn worfelli_live_voices(
-        floats: &Floats,
-        bends: &Bends,
-        counts: &Counts,
-        codes: &Codes,
-    ) -> usize;
-    pub(crate) safe fn worfelli_live_stride(
-        floats: &Floats,
-        bends: &Bends,
-        counts: &Counts,
-        codes: &Codes,
-    ) -> usize;
+    pub(crate) safe fn worfelli_live_voices(bank: &State) -> usize;
+    pub(crate) safe fn worfelli_live_stride(bank: &State) -> usize;
     pub(crate) safe fn worfelli_live_params(
-        floats: &Floats,
-        bends: &Bends,
-        counts: &Counts,
-        codes: &Codes,
+        bank: &State,
         voice: usize,
         numbers: &mut [f32; 11],
         named: &mut [u32; 3],
     ) -> u32;
-    pub(crate) safe fn worfelli_live_stage(
-        floats: &Floats,
-        bends: &Bends,
-        counts: &Counts,
-        codes: &Codes,
-        voice: usize,
-        stage: &mut u32,
-    ) -> u32;
-    pub(crate) safe fn worfelli_live_level(
-        floats: &Floats,
-        bends: &Bends,
-        counts: &Counts,
-        codes: &Codes,
-        voice: usize,
-        level: &mut f32,
-    ) -> u32;
-    pub(crate) safe fn worfelli_live_is_idle(
-        floats: &Floats,
-        bends: &Bends,
-        counts: &Counts,
-        codes: &Codes,
-        voice: usize,
-        idle: &mut u32,
-    ) -> u32;
-    pub(crate) safe fn worfelli_live_tail(
-        floats: &Floats,
-        bends: &Bends,
-        counts: &Counts,
-        codes: &Codes,
-        voice: usize,
-        frames: &mut u64,
-    ) -> u32;
-    pub(crate) safe fn worfelli_live_lead(
-        floats: &Floats,
-        bends: &Bends,
-        counts: &Counts,
-        codes: &Codes,
-        voice: usize,
-        frames: &mut u64,
-    ) -> u32;
+    pub(crate) safe fn worfelli_live_stage(bank: &State, voice: usize, stage: &mut u32) -> u32;
+    pub(crate) safe fn worfelli_live_level(bank: &State, voice: usize, level: &mut f32) -> u32;
+    pub(crate) safe fn worfelli_live_is_idle(bank: &State, voice: usize, idle: &mut u32) -> u32;
+    pub(crate) safe fn worfelli_live_tail(bank: &State, voice: usize, frames: &mut u64) -> u32;
+    pub(crate) safe fn worfelli_live_lead(bank: &State, voice: usize, frames: &mut u64) -> u32;
 
     fn worfelli_list_info(
         list: *const u8,
@@ -236,17 +139,10 @@ fn assert_agreement(version: u32, size: usize) {
 /// Writes the next frames, and answers 0 or the refusal's number.
 #[inline]
 pub(crate) fn process(state: &mut State, out: &mut [f32]) -> u32 {
-    let State {
-        bends,
-        counts,
-        floats,
-        codes,
-        ..
-    } = state;
     in_default_mode(|| {
         // SAFETY: pointer and length are those of a slice that may be written. It is lent mutably, as the
         // state is, so that they do not overlap.
-        unsafe { worfelli_live_process(floats, bends, counts, codes, out.as_mut_ptr(), out.len()) }
+        unsafe { worfelli_live_process(state, out.as_mut_ptr(), out.len()) }
     })
 }
 
@@ -327,7 +223,7 @@ pub(crate) fn in_default_mode<T: Default, F: FnMut() -> T>(call: F) -> T {
 
 #[cfg(test)]
 mod tests {
-    use super::{SIZE, VERSION, assert_agreement, worfelli_bank_size, worfelli_version};
+    use super::*;
 
     #[test]
     fn this_library() {
@@ -335,14 +231,49 @@ mod tests {
     }
 
     #[test]
-    #[should_panic(expected = "libworfelli.a is of version 2 with banks of 9088 bytes")]
+    #[should_panic(expected = "libworfelli.a is of version 3 with banks of 9088 bytes")]
     fn another_version() {
         assert_agreement(VERSION + 1, SIZE);
     }
 
     #[test]
-    #[should_panic(expected = "libworfelli.a is of version 1 with banks of 9096 bytes")]
+    #[should_panic(expected = "libworfelli.a is of version 2 with banks of 9096 bytes")]
     fn another_size() {
         assert_agreement(VERSION, SIZE + 8);
+    }
+
+    /// A function of the library knows the arrays alone, and the version lies behind the last of them.
+    #[test]
+    fn no_call_writes_the_version() {
+        for byte in [0, 1, 0x5a, 0xff] {
+            let mut state = State::from_bytes(&[byte; SIZE]);
+            let version = state.version;
+            let kept = |state: &State| assert_eq!(state.version, version);
+            for voices in [65, 64, 3] {
+                worfelli_live_open(&mut state, voices, &[0.5; 11], &[0; 3], 48000.0, 120.0, 1.0);
+                kept(&state);
+            }
+            worfelli_live_open(&mut state, 3, &[0.5; 11], &[2; 3], 48000.0, 120.0, 1.0);
+            kept(&state);
+            state = State::from_bytes(&[byte; SIZE]);
+            for voice in [0, 1, 63, 64] {
+                worfelli_live_set_params(&mut state, voice, &[0.25; 11], &[1; 3]);
+                kept(&state);
+                worfelli_live_trigger(&mut state, voice, 0);
+                kept(&state);
+                process(&mut state, &mut [0.0; 192]);
+                kept(&state);
+                worfelli_live_release(&mut state, voice);
+                kept(&state);
+                worfelli_live_join(&mut state, voice, 0);
+                kept(&state);
+                worfelli_live_reset(&mut state, voice);
+                kept(&state);
+            }
+            worfelli_live_set_all_params(&mut state, &[0.75; 11], &[1; 3]);
+            kept(&state);
+            worfelli_live_set_timing(&mut state, 44100.0, 60.0, 2.0);
+            kept(&state);
+        }
     }
 }

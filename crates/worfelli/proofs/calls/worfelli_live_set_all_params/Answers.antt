@@ -1,22 +1,21 @@
--- `worfelli_live_set_all_params`: the codes are tested before the settings are looked at. All name something: the bank's own call (`own-answer`);
--- else 10 (`unnamed`).
-use mathlib.Core.Path.{sym, ap, ◌∙◌}
-use Rattle.memory.specs.Memory.{arrays}
-use Rattle.bank.specs.Calls.{Call}
-use Rattle.worfelli.specs.Coded.{named, params}
-use Rattle.worfelli.proofs.Answers.{own-answer, unnamed}
+-- `worfelli_live_set_all_params`: by whether each code is named, as `answer` has it.
+use mathlib.Core.Path.{refl, ap, ◌∙◌}
+use Rattle.settings.specs.Refusals.{number}
+use Rattle.worfelli.specs.Live.{answer}
 use Rattle.worfelli.proofs.calls.worfelli_live_set_all_params.Goals as goal
 
-pub returns-then-named : goal.returns-then-named
-returns-then-named c =
-    let a = c.args in
-    let call = Call.set_all_params in
-    let r = own-answer (named a.codes.now) (sym c.named.ensures ∙ c.if-named.true) (call c.params.result)
-    (call (params a.numbers.now a.codes.now)) (ap call c.params.ensures) c.set_all_params.result (arrays a.f.now a.k.now a.n.now a.c.now) (arrays c.set_all_params.new.f c.set_all_params.new.k c.set_all_params.new.n c.set_all_params.new.c) (c.set_all_params.ensures.refusal, (c.set_all_params.ensures.bank, c.set_all_params.ensures.kept)) in
-    record { refusal = r.0; bank = r.1.0; kept = r.1.1 }
+pub returns-in-Ok-clause-refusal : goal.returns-in-Ok-clause-refusal
+unfolding answer
+returns-in-Ok-clause-refusal c = rw (c.in-Ok.ensures.0, ← c.in-Ok.ensures.1) (c.number_of.ensures ∙ c.set_all_params.ensures.refusal)
 
-pub returns : goal.returns
-returns c =
-    let a = c.args in
-    let r = unnamed (named a.codes.now) (sym c.named.ensures ∙ c.if-named.false) (Call.set_all_params (params a.numbers.now a.codes.now)) (arrays a.f.now a.k.now a.n.now a.c.now) in
-    record { refusal = r.0; bank = r.1.0; kept = r.1.1 }
+pub returns-in-Ok-clause-bank : goal.returns-in-Ok-clause-bank
+unfolding answer
+returns-in-Ok-clause-bank c = rw (c.in-Ok.ensures.0, ← c.in-Ok.ensures.1) c.set_all_params.ensures.bank
+
+pub returns-in-Err-clause-refusal : goal.returns-in-Err-clause-refusal
+unfolding answer
+returns-in-Err-clause-refusal c = rw c.in-Err.ensures.0 (c.number.ensures ∙ ap number c.in-Err.ensures.1)
+
+pub returns-in-Err-clause-bank : goal.returns-in-Err-clause-bank
+unfolding answer
+returns-in-Err-clause-bank c = rw c.in-Err.ensures.0 refl

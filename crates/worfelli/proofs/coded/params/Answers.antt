@@ -1,19 +1,39 @@
--- `params`: the three codes become what they name, one rewriting each, and the eleven numbers are the floats of the settings in their order.
-use mathlib.Core.Path.{ap, ◌∙◌}
-use mathlib.Core.Bool.{Bool}
-use Rattle.timing.specs.declared.TimeUnit.{TimeUnit}
-use Rattle.settings.specs.declared.settings.StealRestart.{StealRestart}
-use Rattle.memory.specs.Memory.{params_of, unit_of, flag_of}
-use Rattle.worfelli.specs.Coded.{code, params}
+-- `params`: each of the three codes is named or not (`Named`), and the settings' fields are what they name and the numbers in their order.
+use mathlib.Core.Path.{refl, sym}
+use Rattle.std.proofs.lemmas.Result.{MatchResult-at_ok, MatchResult-at_err}
+use Rattle.worfelli.specs.Coded.{code, named, params}
+use Rattle.worfelli.proofs.Named.{unit-means, flag-means, restart-means, handed}
 use Rattle.worfelli.proofs.coded.params.Goals as goal
 
+pub returns-in_err-unit : goal.returns-in_err-unit
+unfolding named
+returns-in_err-unit c =
+    let l = c.args.codes.now in
+    let e = MatchResult-at_err _ _ _ (sym c.in_err-unit.ensures) (unit-means (code l 0)) in
+    handed _ (named l) _ c.from_residual.ensures.1 (rw e refl)
+
+pub returns-in_err-legato_inverted : goal.returns-in_err-legato_inverted
+unfolding named
+returns-in_err-legato_inverted c =
+    let l = c.args.codes.now in
+    let u = MatchResult-at_ok _ _ _ (sym c.in_ok-unit.ensures) (unit-means (code l 0)) in
+    let e = MatchResult-at_err _ _ _ (sym c.in_err-legato_inverted.ensures) (flag-means (code l 1)) in
+    handed _ (named l) _ c.from_residual-in_err-legato_inverted.ensures.1 (rw (u.0, e) refl)
+
+pub returns-in_err-steal_restart : goal.returns-in_err-steal_restart
+unfolding named
+returns-in_err-steal_restart c =
+    let l = c.args.codes.now in
+    let u = MatchResult-at_ok _ _ _ (sym c.in_ok-unit.ensures) (unit-means (code l 0)) in
+    let f = MatchResult-at_ok _ _ _ (sym c.in_ok-legato_inverted.ensures) (flag-means (code l 1)) in
+    let e = MatchResult-at_err _ _ _ (sym c.in_err-steal_restart.ensures) (restart-means (code l 2)) in
+    handed _ (named l) _ c.from_residual-in_err-steal_restart.ensures.1 (rw (u.0, f.0, e) refl)
+
 pub returns : goal.returns
-unfolding params
+unfolding named params
 returns c =
-    let a = c.args in
-    let ns = a.numbers.now in
-    let unit = unit_of (code a.codes.now 0) in
-    c.with_codes.ensures
-    ∙ ap (λ (u : TimeUnit). params_of ns u c.flag_of-inverted.result c.restart_of-restart.result) c.unit_of-unit.ensures
-    ∙ ap (λ (b : Bool). params_of ns unit b c.restart_of-restart.result) c.flag_of-inverted.ensures
-    ∙ ap (λ (r : StealRestart). params_of ns unit (flag_of (code a.codes.now 1)) r) c.restart_of-restart.ensures
+    let l = c.args.codes.now in
+    let u = MatchResult-at_ok _ _ _ (sym c.in_ok-unit.ensures) (unit-means (code l 0)) in
+    let f = MatchResult-at_ok _ _ _ (sym c.in_ok-legato_inverted.ensures) (flag-means (code l 1)) in
+    let s = MatchResult-at_ok _ _ _ (sym c.in_ok-steal_restart.ensures) (restart-means (code l 2)) in
+    (rw (u.0, f.0, s.0) refl, rw (u.1, f.1, s.1) refl)

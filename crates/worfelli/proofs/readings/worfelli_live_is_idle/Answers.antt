@@ -1,17 +1,20 @@
-use mathlib.Core.Path.{refl, sym, ap, ◌∙◌}
-use Rattle.bank.specs.Replies.{Reply, of_idle}
+-- `worfelli_live_is_idle`: what the bank's reading replies, and leaves behind the pointer as a code (`behind`).
+use mathlib.Core.Path.{◌≡◌, refl}
+use mathlib.Core.Bool.{Bool, true, false}
+use Prim.Native.Nat.{ℕ}
+use mir.Val.{bool_byte}
+use Rattle.memory.specs.Memory.{flag_code}
+use Rattle.bank.specs.Replies.{Reply}
 use Rattle.worfelli.specs.Told.{refusal, number}
-use Rattle.worfelli.proofs.Behind.{behind}
+use Rattle.worfelli.proofs.Behind.{mapped, behind}
 use Rattle.worfelli.proofs.readings.worfelli_live_is_idle.Goals as goal
 
-pub returns-in-Idle : goal.returns-in-Idle
-unfolding of_idle refusal number
-returns-in-Idle c =
-    let r = behind number (Reply.is_idle c.in-Idle.yes) _ (ap of_idle (sym c.in-Idle.is) ∙ c.is_idle.ensures) 0 c.args.idle.now c.flag_code.result refl c.flag_code.ensures in
-    record { refusal = r.0; told = r.1 }
+flag : (x : Bool) (y : ℕ) → y ≡ bool_byte x → y ≡ flag_code x
+flag true y h = h
+flag false y h = h
 
-pub returns-in-NoSuchVoice : goal.returns-in-NoSuchVoice
-unfolding of_idle refusal number
-returns-in-NoSuchVoice c =
-    let r = behind number (Reply.refused 2) _ (ap of_idle (sym c.in-NoSuchVoice.is) ∙ c.is_idle.ensures) 2 c.args.idle.now c.args.idle.now refl refl in
+pub returns : goal.returns
+unfolding refusal number
+returns c =
+    let r = behind Reply.is_idle flag_code number (record { accepted = λ x. refl; told = λ x was. refl; refused = λ n was. refl }) c.is_idle.result _ c.is_idle.ensures c.map.result (mapped _ c.map.result _ flag_code c.map.ensures.cases flag) _ c.args.idle.now _ c.told.ensures.refusal c.told.ensures.told in
     record { refusal = r.0; told = r.1 }

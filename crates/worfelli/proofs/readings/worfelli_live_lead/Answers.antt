@@ -1,17 +1,12 @@
-use mathlib.Core.Path.{refl, sym, ap, ◌∙◌}
-use Rattle.bank.specs.Replies.{Reply, of_frames}
+-- `worfelli_live_lead`: what the bank's reading replies, and leaves behind the pointer (`behind`).
+use mathlib.Core.Path.{refl}
+use Rattle.bank.specs.Replies.{Reply}
 use Rattle.worfelli.specs.Told.{refusal, number}
-use Rattle.worfelli.proofs.Behind.{behind}
+use Rattle.worfelli.proofs.Behind.{same, behind}
 use Rattle.worfelli.proofs.readings.worfelli_live_lead.Goals as goal
 
-pub returns-in-Frames : goal.returns-in-Frames
-unfolding of_frames refusal number
-returns-in-Frames c =
-    let r = behind number (Reply.count c.in-Frames.count) _ (ap of_frames (sym c.in-Frames.is) ∙ c.lead.ensures) 0 c.args.frames.now c.in-Frames.count refl refl in
-    record { refusal = r.0; told = r.1 }
-
-pub returns-in-NoSuchVoice : goal.returns-in-NoSuchVoice
-unfolding of_frames refusal number
-returns-in-NoSuchVoice c =
-    let r = behind number (Reply.refused 2) _ (ap of_frames (sym c.in-NoSuchVoice.is) ∙ c.lead.ensures) 2 c.args.frames.now c.args.frames.now refl refl in
+pub returns : goal.returns
+unfolding refusal number
+returns c =
+    let r = behind Reply.count (λ x. x) number (record { accepted = λ x. refl; told = λ x was. refl; refused = λ n was. refl }) c.lead.result _ c.lead.ensures _ (same c.lead.result) _ c.args.frames.now _ c.told.ensures.refusal c.told.ensures.told in
     record { refusal = r.0; told = r.1 }

@@ -1,26 +1,27 @@
+-- `worfelli_live_params`: of each kind of reply, its number and what is left of the two arrays.
 use mathlib.Core.Path.{sym, ap, ◌∙◌}
-use Rattle.bank.specs.Replies.{Reply, of_params}
+use Rattle.bank.specs.Replies.{Reply, of_reading}
 use Rattle.worfelli.specs.Told.{refusal, numbers, codes}
 use Rattle.worfelli.proofs.readings.worfelli_live_params.Goals as goal
 
-pub returns-in-Params : goal.returns-in-Params
-unfolding of_params refusal numbers codes
-returns-in-Params c =
+pub returns-in-Ok : goal.returns-in-Ok
+unfolding of_reading refusal numbers codes
+returns-in-Ok c =
     let a = c.args in
-    let e = ap of_params (sym c.in-Params.is) ∙ c.params.ensures in
+    let e = ap (of_reading Reply.params) (sym c.in-Ok.is) ∙ c.params.ensures in
     record {
       refusal = ap refusal e;
       numbers = c.put_params.ensures.numbers ∙ ap (λ (y : Reply). numbers y a.numbers.now) e;
       codes = c.put_params.ensures.codes ∙ ap (λ (y : Reply). codes y a.codes.now) e;
     }
 
-pub returns-in-NoSuchVoice : goal.returns-in-NoSuchVoice
-unfolding of_params refusal numbers codes
-returns-in-NoSuchVoice c =
+pub returns-in-Err : goal.returns-in-Err
+unfolding of_reading refusal numbers codes
+returns-in-Err c =
     let a = c.args in
-    let e = ap of_params (sym c.in-NoSuchVoice.is) ∙ c.params.ensures in
+    let e = ap (of_reading Reply.params) (sym c.in-Err.is) ∙ c.params.ensures in
     record {
-      refusal = ap refusal e;
+      refusal = c.number.ensures ∙ ap refusal e;
       numbers = ap (λ (y : Reply). numbers y a.numbers.now) e;
       codes = ap (λ (y : Reply). codes y a.codes.now) e;
     }

@@ -1,17 +1,14 @@
-use mathlib.Core.Path.{refl, sym, ap, ◌∙◌}
-use Rattle.bank.specs.Replies.{Reply, of_stage}
+-- `worfelli_live_stage`: what the bank's reading replies, and leaves behind the pointer as a code (`behind`).
+use mathlib.Core.Path.{refl}
+use Rattle.std.proofs.Common.{of_calls}
+use Rattle.memory.specs.Memory.{stage_code}
+use Rattle.bank.specs.Replies.{Reply}
 use Rattle.worfelli.specs.Told.{refusal, number}
-use Rattle.worfelli.proofs.Behind.{behind}
+use Rattle.worfelli.proofs.Behind.{mapped, behind}
 use Rattle.worfelli.proofs.readings.worfelli_live_stage.Goals as goal
 
-pub returns-in-Stage : goal.returns-in-Stage
-unfolding of_stage refusal number
-returns-in-Stage c =
-    let r = behind number (Reply.stage c.in-Stage.at) _ (ap of_stage (sym c.in-Stage.is) ∙ c.stage.ensures) 0 c.args.stage.now c.stage_code.result refl c.stage_code.ensures in
-    record { refusal = r.0; told = r.1 }
-
-pub returns-in-NoSuchVoice : goal.returns-in-NoSuchVoice
-unfolding of_stage refusal number
-returns-in-NoSuchVoice c =
-    let r = behind number (Reply.refused 2) _ (ap of_stage (sym c.in-NoSuchVoice.is) ∙ c.stage.ensures) 2 c.args.stage.now c.args.stage.now refl refl in
+pub returns : goal.returns
+unfolding refusal number
+returns c =
+    let r = behind Reply.stage stage_code number (record { accepted = λ x. refl; told = λ x was. refl; refused = λ n was. refl }) c.stage.result _ c.stage.ensures c.map.result (mapped _ c.map.result _ stage_code c.map.ensures.cases (λ x y h. search of_calls)) _ c.args.stage.now _ c.told.ensures.refusal c.told.ensures.told in
     record { refusal = r.0; told = r.1 }
