@@ -11,12 +11,11 @@ use lib.Dec.{ltb}
 use lib.ListN.{length}
 use Rattle.rows.specs.Strides.{stride_of}
 use Rattle.events.specs.declared.Event.{Event}
-use Rattle.events.specs.declared.Reading.{Reading}
 use Rattle.events.specs.Format as Format
+use Rattle.events.specs.Format.{Reading}
 use Rattle.events.proofs.Records.{read_first, read_next, read-refused}
-use Rattle.checking.specs.declared.Checked.{Checked}
 use Rattle.checking.specs.Deeds.{Deed, opens, calls, deed, known_after, frames_of}
-use Rattle.checking.specs.Checks.{start, passed, judged, met, checked_from, checked}
+use Rattle.checking.specs.Checks.{Checked, start, passed, judged, met, checked_from, checked}
 use Rattle.checking.proofs.Judging.{judged-passed}
 use Rattle.checking.proofs.Passing.{some, refused_none, still, ended, one_more, next_check, judged-accepted, checked-held}
 use Rattle.player.proofs.Doing.{is_open, open_deed}

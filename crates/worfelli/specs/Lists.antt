@@ -1,8 +1,8 @@
 -- What is known of a list before it is played.
 use Rattle.std.specs.Prelude.{ℕ, ◌-◌, ◌^◌, List}
 use Rattle.bank.specs.Calls.{if_accepted}
-use Rattle.checking.specs.declared.Checked.{Checked}
 use Rattle.checking.specs.Checks as Checks
+use Rattle.checking.specs.Checks.{Checked}
 
 -- The check of a list for the longest output that there is.
 abbrev pub info : List ℕ → Checked

@@ -3,10 +3,7 @@ ghost use Rattle.std.specs.Prelude.{◌≡◌, length};
 ghost use Rattle.player.specs.Playing as Playing;
 ghost use Rattle.worfelli.specs.Lists as Lists;
 
-use settings::ACCEPTED;
-
-// The longest output that there is.
-const LONGEST: usize = 0xffff_ffff_ffff_ffff;
+use checking::Checked;
 
 // How many voices and frames a list has, so that a host can make room for it. Answers 0, or the number
 // that refuses it however long the output is, and then leaves both as they were.
@@ -16,14 +13,16 @@ pub extern "C" fn worfelli_list_info(list: &[u8], voices: &mut usize, frames: &m
     ensures voices { voices.new ≡ Lists.voices list.now voices.old }
     ensures frames { frames.new ≡ Lists.frames list.now frames.old }
 {
-    let c = checking::check(list, LONGEST);
-    if c.refusal != ACCEPTED {
-        return c.refusal;
+    // However long the output is: the longest that there is.
+    let Checked { verdict, passed } = checking::check(list, usize::MAX);
+    match verdict {
+        Ok(()) => {
+            *voices = passed.known.voices;
+            *frames = passed.frames;
+            0
+        }
+        Err(refusal) => refusal.number(),
     }
-    let known = c.known;
-    *voices = known.voices;
-    *frames = c.frames;
-    ACCEPTED
 }
 
 // Plays a list into `out`, four bytes a level, the lowest first: frame after frame, each of as many

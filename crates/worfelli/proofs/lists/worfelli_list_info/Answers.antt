@@ -1,35 +1,36 @@
--- `worfelli_list_info`: the check of the list for the longest output decides. A refused list leaves both numbers; an accepted one has its voices and
--- frames stored. Both by `check`'s statement, with the refusal's two cases (`if_refused`, `if_accepted_lem`).
-use mathlib.Core.Path.{◌≡◌, sym, ap, ◌∙◌}
-use native.Mathlib.Omega.{arith}
+-- `worfelli_list_info`: the check of the list for the longest output decides. An accepted list has its voices and frames stored, and a refused one
+-- leaves both numbers; both by `check`'s statement.
+use mathlib.Core.Path.{sym, ap, ◌∙◌}
+use Rattle.settings.specs.Refusals.{number}
+use Rattle.settings.proofs.Handed.{number-some}
 use Rattle.bank.specs.Calls.{if_accepted}
-use Rattle.bank.proofs.Accepted.{if_refused, if_accepted_lem}
-use Rattle.checking.specs.declared.Checked.{Checked}
+use Rattle.bank.proofs.Accepted.{if_refused}
+use Rattle.checking.specs.Checks.{Checked, seen}
 use Rattle.worfelli.specs.Lists.{voices, frames}
 use Rattle.worfelli.proofs.lists.worfelli_list_info.Goals as goal
 
-pub returns-then-c-ne-ACCEPTED : goal.returns-then-c-ne-ACCEPTED
+pub returns-in-Ok : goal.returns-in-Ok
 unfolding voices frames
-returns-then-c-ne-ACCEPTED c =
+returns-in-Ok c =
     let a = c.args in
-    let q = c.check-c in
-    let d = c.if-c-ne-ACCEPTED.true in record {
-      refusal = ap (λ (x : Checked). x.refusal) q.ensures;
-      voices = sym (if_refused q.result.refusal q.result.known.voices a.voices.now d)
-          ∙ ap (λ (x : Checked). if_accepted x.refusal x.known.voices a.voices.now) q.ensures;
-      frames = sym (if_refused q.result.refusal q.result.frames a.frames.now d)
-          ∙ ap (λ (x : Checked). if_accepted x.refusal x.frames a.frames.now) q.ensures;
+    let p = c.check-verdict.result.passed in
+    let e = ap (λ v. seen v p) (sym c.in-Ok.is) ∙ c.check-verdict.ensures in
+    record {
+      refusal = ap (λ (x : Checked). x.refusal) e;
+      voices = ap (λ (x : Checked). if_accepted x.refusal x.known.voices a.voices.now) e;
+      frames = ap (λ (x : Checked). if_accepted x.refusal x.frames a.frames.now) e;
     }
 
-pub returns : goal.returns
+pub returns-in-Err : goal.returns-in-Err
 unfolding voices frames
-returns c =
+returns-in-Err c =
     let a = c.args in
-    let q = c.check-c in
-    let z : q.result.refusal ≡ 0 = omega (arith, c.if-c-ne-ACCEPTED.false) in record {
-      refusal = sym z ∙ ap (λ (x : Checked). x.refusal) q.ensures;
-      voices = sym (if_accepted_lem q.result.refusal q.result.known.voices a.voices.now z)
-          ∙ ap (λ (x : Checked). if_accepted x.refusal x.known.voices a.voices.now) q.ensures;
-      frames = sym (if_accepted_lem q.result.refusal q.result.frames a.frames.now z)
-          ∙ ap (λ (x : Checked). if_accepted x.refusal x.frames a.frames.now) q.ensures;
+    let p = c.check-verdict.result.passed in
+    let n = number c.in-Err.refusal in
+    let d = number-some c.in-Err.refusal in
+    let e = ap (λ v. seen v p) (sym c.in-Err.is) ∙ c.check-verdict.ensures in
+    record {
+      refusal = c.number.ensures ∙ ap (λ (x : Checked). x.refusal) e;
+      voices = sym (if_refused n p.known.voices a.voices.now d) ∙ ap (λ (x : Checked). if_accepted x.refusal x.known.voices a.voices.now) e;
+      frames = sym (if_refused n p.frames a.frames.now d) ∙ ap (λ (x : Checked). if_accepted x.refusal x.frames a.frames.now) e;
     }
