@@ -3,36 +3,21 @@
 // bits in eight hexadecimal digits. A list that is refused: its refusal's number and place.
 #![tactic(auto)]
 
-ghost use Rattle.std.specs.Prelude.{◌+◌, ◌*◌, ◌≤◌, ◌<◌, length, IfOk};
+ghost use Rattle.std.specs.Prelude.{◌≡◌, ◌*◌, ◌≤◌, ◌<◌, length, IfOk};
 
-use settings::ACCEPTED;
 use std::io;
 use std::io::{Read, Write};
 
-fn wide(x: u8) -> u64
-    ensures { result < 256 }
-{
-    x as u64
-}
-
 // A level's bits, the lowest byte first.
-fn bits(out: &[u8], at: usize) -> u64
-    requires { at + 4 ≤ length out.now }
+fn bits(level: &[u8]) -> u32
+    requires { length level.now ≡ 4 }
 {
-    wide(out[at])
-        + wide(out[at + 1]) * 0x100
-        + wide(out[at + 2]) * 0x1_0000
-        + wide(out[at + 3]) * 0x100_0000
+    u32::from_le_bytes([level[0], level[1], level[2], level[3]])
 }
 
-fn print_levels(to: &mut impl Write, out: &[u8], at: usize, voices: usize) -> io::Result<()>
-    requires { at + 4 * voices ≤ length out.now }
-{
-    let mut v = 0;
-    while v < voices {
-        let level = bits(out, at + 4 * v);
-        write!(to, " {level:08x}")?;
-        v += 1;
+fn print_levels(to: &mut impl Write, levels: &[u8]) -> io::Result<()> {
+    for level in levels.chunks_exact(4) {
+        write!(to, " {:08x}", bits(level))?;
     }
     Ok(())
 }
@@ -46,32 +31,29 @@ fn print_frames(
 ) -> io::Result<()>
     requires { (voices ≤ stride) × (4 * (frames * stride) ≤ length out.now) }
 {
-    let mut k = 0;
-    while k < frames {
+    for k in 0..frames {
+        let row = &out[4 * (k * stride)..];
         write!(to, "{k}")?;
-        print_levels(to, out, 4 * (k * stride), voices)?;
+        print_levels(to, &row[..4 * voices])?;
         writeln!(to)?;
-        k += 1;
     }
     Ok(())
 }
 
-fn print_refusal(to: &mut impl Write, refusal: u32, at: usize) -> io::Result<()> {
-    writeln!(to, "refused {refusal} at {at}")
-}
-
 fn show(to: &mut impl Write, list: &[u8], out: &mut [u8]) -> io::Result<()> {
-    let c = checking::check(list, out.len());
-    if c.refusal != ACCEPTED {
-        return print_refusal(to, c.refusal, c.at);
+    let checked = checking::check(list, out.len());
+    let passed = checked.passed;
+    if let Err(refusal) = checked.verdict {
+        return writeln!(to, "refused {} at {}", refusal.number(), passed.at);
     }
     player::play(list, out);
+    let voices = passed.known.voices;
     print_frames(
         to,
         out,
-        c.frames as usize,
-        c.known.voices,
-        bank::stride_of(c.known.voices),
+        passed.frames as usize,
+        voices,
+        bank::stride_of(voices),
     )
 }
 
