@@ -92,7 +92,7 @@ pub extern "C" fn worfelli_envelope_calls(
         envelope = called(envelope, kind, params);
     }
     envelope.after_process(out);
-    number_of(answer.map(|_| ()))
+    number_of(answer)
 }
 
 // The sum of the bits of the first `times` levels of a new note, modulo 2^64, frame by frame.

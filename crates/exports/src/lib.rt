@@ -168,5 +168,5 @@ pub extern "C" fn worfelli_note(
 {
     let answer = envelopes::fresh(sample_rate, attack, decay, sustain);
     envelopes::struck(answer).after_process(out);
-    number_of(answer.map(|_| ()))
+    number_of(answer)
 }

@@ -3,13 +3,9 @@
 use crate::replies;
 use crate::replies::{Told, high, low};
 use bank::Bank;
-use settings::{EnvelopeParams, Refusal, Stage, number_of};
+use settings::{EnvelopeParams, Stage, number_of};
 use std::io;
 use std::io::Write;
-
-fn refusal<T: Drop>(reading: Result<T, Refusal>) -> u32 {
-    number_of(reading.map(|_| ()))
-}
 
 fn told(bank: &Bank, voice: usize) -> Told {
     Told {
@@ -25,17 +21,17 @@ fn told(bank: &Bank, voice: usize) -> Told {
 // Everything that is read of a voice; then the other readings' refusals, and the numbers that never
 // refuse.
 pub(crate) fn write_readings(to: &mut impl Write, bank: &Bank, voice: usize) -> io::Result<()> {
-    replies::write_told(to, refusal(bank.params(voice)), told(bank, voice))?;
+    replies::write_told(to, number_of(bank.params(voice)), told(bank, voice))?;
     let voices = bank.voices() as u64;
     let stride = bank.stride() as u64;
     replies::write_words(
         to,
         [
-            refusal(bank.stage(voice)),
-            refusal(bank.is_idle(voice)),
-            refusal(bank.level(voice)),
-            refusal(bank.tail(voice)),
-            refusal(bank.lead(voice)),
+            number_of(bank.stage(voice)),
+            number_of(bank.is_idle(voice)),
+            number_of(bank.level(voice)),
+            number_of(bank.tail(voice)),
+            number_of(bank.lead(voice)),
             low(voices),
             high(voices),
             low(stride),

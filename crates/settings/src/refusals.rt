@@ -47,11 +47,11 @@ impl From<UnnamedCode> for Refusal {
 }
 
 // A call's answer as hosts and lists have it: 0, or the refusal's number.
-pub fn number_of(answer: Result<(), Refusal>) -> u32
+pub fn number_of<T: Drop>(answer: Result<T, Refusal>) -> u32
     ensures { result ≡ Refusals.number_of answer }
 {
     match answer {
-        Ok(()) => 0,
+        Ok(_) => 0,
         Err(refusal) => refusal.number(),
     }
 }
