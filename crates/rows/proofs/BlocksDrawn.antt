@@ -1,11 +1,10 @@
--- Blocks of rows, one after the other, are all their rows; and what is drawn where they fit the output, and where not.
-use mathlib.Core.Path.{◌≡◌, refl, sym, ap, ◌∙◌, subst}
+-- Blocks of rows, one after the other, are all their rows.
+use mathlib.Core.Path.{◌≡◌, sym, ap, ◌∙◌, subst}
 use mathlib.Core.Logic.{◌⊎◌, inl, inr}
 use mathlib.Core.List.{List, ◌++◌}
 use Prim.Native.Nat.{ℕ, zero, suc, ◌+◌, ◌*◌, ◌/◌, ◌-◌, ◌<◌, ◌≤◌}
 use native.Mathlib.Nat.{add-mul, le-div_iff_mul-le}
 use native.Mathlib.Omega.{arith}
-use borrow.Author.Tests.{lt-ltb, le-ltb}
 use borrow.Rule.Slice.PartMut.{mid_of, put_mid}
 use lib.Ieee.{Float, nan}
 use lib.ListN.{length, get_or, take, drop, length-append, length-drop}
@@ -15,7 +14,7 @@ use Rattle.curve.proofs.Steps.{u_next}
 use Rattle.filled.specs.Filled.{Filled}
 use Rattle.filled.proofs.Filling.{split}
 use Rattle.memory.specs.Memory.{u_at, r_at, d_at}
-use Rattle.rows.specs.Rows.{moved_at, drawn_at, fitting, Drawn}
+use Rattle.rows.specs.Rows.{moved_at, drawn_at, Drawn}
 use Rattle.rows.specs.Places.{Told}
 use Rattle.rows.proofs.Lent.{part_before, part_at, rest-lent, rest_back}
 use Rattle.rows.proofs.RowsDrawn.{row_fits}
@@ -51,15 +50,6 @@ module _ (groups m : ℕ) (few : groups ≤ 4) (f f₁ : List Float) (M : Filled
       cc
 
 module _ {A : Type 0} (z : A) (wide : ℕ) (cell : (ℕ → Float) → ℕ → A) where
-  pub drawn_nothing : (groups : ℕ) (f : List Float) (o : List A) → Drawn z wide cell groups 0 f o o f
-  drawn_nothing groups f o =
-      record {
-        levels = λ k c p q. absurd (omega arith);
-        past = λ j p. refl;
-        long = refl;
-        moved = record { same = refl; inside = λ j p q. refl; before = λ j p. refl; after = λ j p. refl };
-      }
-
   -- n rows behind m: from `at` on the output was lent, and came back with them.
   module _ (told : Told wide cell) (groups m n at : ℕ) (few : groups ≤ 4) (f f₁ f₂ : List Float) (o₀ o p' : List A)
       (at-is : at ≡ m * (wide * groups)) (fits : at ≤ length o)
@@ -107,16 +97,3 @@ module _ {A : Type 0} (z : A) (wide : ℕ) (cell : (ℕ → Float) → ℕ → A
       subst (λ (l : List A). Drawn z wide cell groups (m + n) f o₀ l f₂) (sym (rest_back at o p'))
       (rows_on told groups m n at few f f₁ f₂ o₀ o p' at-is fits D
       (subst (λ (l : List A). Drawn z wide cell groups n f₁ l p' f₂) (rest-lent at o) E))
-
-  -- All rows were drawn, since they fit.
-  pub drawn-fitting : (groups G rows : ℕ) (f : List Float) (o₀ o : List A) (f' : List Float) → groups ≡ G → rows * (wide * groups) ≤ length o₀
-      → Drawn z wide cell groups rows f o₀ o f' → Drawn z wide cell G (fitting rows (wide * G) (length o₀)) f o₀ o f'
-  drawn-fitting groups G rows f o₀ o f' e h D =
-      subst (λ (g : ℕ). Drawn z wide cell g (fitting rows (wide * g) (length o₀)) f o₀ o f') e (rw (le-ltb (length o₀) (rows * (wide * groups)) h) D)
-
-  -- None was.
-  pub drawn-none : (groups G rows : ℕ) (f : List Float) (o : List A) → groups ≡ G → length o < rows * (wide * groups)
-      → Drawn z wide cell G (fitting rows (wide * G) (length o)) f o o f
-  drawn-none groups G rows f o e h =
-      subst (λ (g : ℕ). Drawn z wide cell g (fitting rows (wide * g) (length o)) f o o f) e
-      (rw (lt-ltb (length o) (rows * (wide * groups)) h) (drawn_nothing groups f o))

@@ -1,14 +1,14 @@
 -- Groups of sixteen lanes, one after the other: what is drawn after some of them.
-use mathlib.Core.Path.{◌≡◌, refl, sym, ◌∙◌, subst}
+use mathlib.Core.Path.{◌≡◌, sym, ◌∙◌, subst}
 use mathlib.Core.Logic.{◌⊎◌, inl, inr}
 use mathlib.Core.List.{List}
 use Prim.Native.Nat.{ℕ, ◌+◌, ◌*◌, ◌-◌, ◌<◌, ◌≤◌}
 use native.Mathlib.Omega.{arith}
 use lib.Ieee.{Float, nan}
-use lib.ListN.{length, get_or}
+use lib.ListN.{get_or}
 use Rattle.filled.specs.Filled.{Filled}
-use Rattle.filled.proofs.Filling.{split, filled_none, filled_on}
-use Rattle.rows.specs.Rows.{moved_at, drawn_at, Still, Laid, GroupDrawn, Drawn}
+use Rattle.filled.proofs.Filling.{split, filled_on}
+use Rattle.rows.specs.Rows.{moved_at, drawn_at, Still, Laid, GroupDrawn}
 use Rattle.rows.specs.Places.{Told, Shifts}
 use Rattle.rows.proofs.LanesMoved.{Moved, put_back, still_filled}
 
@@ -33,14 +33,6 @@ module _ {A : Type 0} (z : A) (wide : ℕ) (cell : (ℕ → Float) → ℕ → A
     pub levels : (k c : ℕ) → k < rows → c < wide * q → get_or o (k * stride + c) z ≡ cell (drawn_at k f) c
     pub past : (j : ℕ) → rows * stride ≤ j → get_or o j z ≡ get_or o₀ j z
     pub moved : Filled nan (moved_at rows f) 0 (16 * q) f f'
-
-  pub groups_none : (stride rows : ℕ) (f : List Float) (o : List A) → GroupsDrawn stride 0 rows f o o f
-  groups_none stride rows f o =
-      record { levels = λ k c p q. absurd (omega arith); past = λ j p. refl; moved = filled_none nan (moved_at rows f) 0 f }
-
-  pub groups_all : (groups rows : ℕ) (f : List Float) (o₀ o : List A) (f' : List Float) → length o ≡ length o₀
-      → GroupsDrawn (wide * groups) groups rows f o₀ o f' → Drawn z wide cell groups rows f o₀ o f'
-  groups_all groups rows f o₀ o f' l G = record { levels = G.levels; past = G.past; long = l; moved = G.moved }
 
   -- One more: its lanes were not moved by the groups before it.
   module _ (told : Told wide cell) (shifts : Shifts wide cell) (stride q rows : ℕ) (f f₁ : List Float) (o₀ o o' : List A) (f' : List Float)

@@ -1,6 +1,5 @@
 -- Laws about rows and runs, each file on those before it.
 pub mod Lent
-mod FilledFront
 mod LanesMoved
 pub mod RowsDrawn
 mod GroupsDrawn

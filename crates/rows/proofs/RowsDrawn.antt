@@ -1,5 +1,5 @@
 -- Rows of a stride, one after the other, and sixteen levels laid in each.
-use mathlib.Core.Path.{◌≡◌, refl, ap, ◌∙◌, subst}
+use mathlib.Core.Path.{◌≡◌, ap, ◌∙◌, subst}
 use mathlib.Core.Logic.{◌⊎◌, inl, inr}
 use mathlib.Core.List.{List}
 use Prim.Native.Nat.{ℕ, ◌+◌, ◌*◌, ◌-◌, ◌<◌, ◌≤◌}
@@ -9,7 +9,7 @@ use lib.Ieee.{Float}
 use lib.ListN.{get_or}
 use Rattle.filled.specs.Filled.{Filled}
 use Rattle.filled.proofs.Filling.{split}
-use Rattle.rows.specs.Rows.{GroupFits, Laid}
+use Rattle.rows.specs.Rows.{Laid}
 
 pub row_fits : (k rows stride : ℕ) → k < rows → k * stride + stride ≤ rows * stride
 row_fits k rows stride p = subst (λ (m : ℕ). m ≤ rows * stride) (suc-mul k stride) (mul-le-mul_right stride p)
@@ -17,15 +17,7 @@ row_fits k rows stride p = subst (λ (m : ℕ). m ≤ rows * stride) (suc-mul k 
 pub run_fits : (done run rows stride : ℕ) → done + run ≤ rows → done * stride + run * stride ≤ rows * stride
 run_fits done run rows stride p = subst (λ (m : ℕ). m ≤ rows * stride) (add-mul done run stride) (mul-le-mul_right stride p)
 
--- Row k has room.
-pub row_room : (wide stride at rows places g : ℕ) (f : List Float) (k : ℕ) → GroupFits wide stride at rows places g f → k < rows
-    → at + k * stride + wide ≤ places
-row_room wide stride at rows places g f k F p = omega (arith, row_fits k rows stride p)
-
 module _ {A : Type 0} (z : A) (wide : ℕ) (cell : (ℕ → Float) → ℕ → A) (stride at : ℕ) (y : ℕ → ℕ → Float) where
-  pub laid_none : (o : List A) → Laid z wide cell stride at 0 y o o
-  laid_none o = record { levels = λ k c p q. absurd (omega arith); kept = λ k c p. refl; past = λ j p. refl }
-
   -- One row more: the places from `to` on were written over with the levels of row k.
   module _ (k : ℕ) (o₀ o o' row : List A) (to : ℕ) (fit : at + wide ≤ stride) (to_is : to ≡ at + k * stride)
       (D : Laid z wide cell stride at k y o₀ o) (X : (c : ℕ) → c < wide → get_or row c z ≡ cell (y k) c)

@@ -18,9 +18,6 @@ use Rattle.rows.specs.Rows.{moved_at, drawn_at, Whole, silence, Silent, Cleared}
 
 -- ---- cleared lanes
 
-pub cleared_none : (n : ℕ) (f : List Float) → Cleared n n f f
-cleared_none n f = record { long = refl; spare = λ w p q. absurd (omega arith); kept = λ i d. refl }
-
 -- One more: lane w is silenced.
 pub cleared_more : (n w : ℕ) (f₀ f : List Float) → n ≤ w → w < lanes → Whole f₀ → Cleared n w f₀ f → Cleared n (w + 1) f₀ (puts lanes f w silence)
 cleared_more n w f₀ f a b h C =

@@ -83,17 +83,9 @@ next-ended n c a h =
     let e : a + (n - a) ≡ n = omega arith in
     subst (λ (k : ℕ). NextEnded c k a (next_ended (n - a) c a)) e (next_of (n - a) c a)
 
--- The search, step by step.
-pub next_here : (m : ℕ) (c : List ℕ) (v : ℕ) → 0 < m → left_at c v ≡ 0 → next_ended m c v ≡ v
-next_here zero c v h e = absurd (omega arith)
-next_here (suc m) c v h e = rw (eq-eqb (left_at c v) 0 e)
-
+-- A step of the search.
 pub next_on : (m : ℕ) (c : List ℕ) (v : ℕ) → 0 < m → (left_at c v ≡ 0 → ⊥) → next_ended m c v ≡ next_ended (m - 1) c (v + 1)
 next_on zero c v h d = absurd (omega arith)
 next_on (suc m) c v h d =
     let e : m ≡ suc m - 1 = omega arith in
     rw (ne_eqb (left_at c v) 0 d) (ap (λ (k : ℕ). next_ended k c (v + 1)) e)
-
-pub next-none : (m : ℕ) (c : List ℕ) (v : ℕ) → m ≡ 0 → next_ended m c v ≡ v
-next-none zero c v e = refl
-next-none (suc m) c v e = absurd (omega arith)

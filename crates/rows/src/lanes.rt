@@ -31,6 +31,64 @@ fn load(f: &Floats, from: usize) -> [f32; 16]
     x
 }
 
+// Sixteen lanes.
+#[derive(Drop)]
+struct Lanes {
+    u: [f32; 16],
+    r: [f32; 16],
+    d: [f32; 16],
+    scale: [f32; 16],
+    base: [f32; 16],
+}
+
+impl Lanes {
+    // Those from lane g on.
+    fn new(f: &Floats, g: usize) -> Lanes
+        requires { g ≤ 48 }
+        ensures u { Rows.Loaded g f.now result.u }
+        ensures r { Rows.Loaded (g + Memory.lanes) f.now result.r }
+        ensures d { Rows.Loaded (g + 2 * Memory.lanes) f.now result.d }
+        ensures scale { Rows.Loaded (g + 3 * Memory.lanes) f.now result.scale }
+        ensures base { Rows.Loaded (g + 4 * Memory.lanes) f.now result.base }
+    {
+        Lanes {
+            u: load(f, g),
+            r: load(f, g + LANES),
+            d: load(f, g + 2 * LANES),
+            scale: load(f, g + 3 * LANES),
+            base: load(f, g + 4 * LANES),
+        }
+    }
+
+    fn levels(&self) -> [f32; 16]
+        ensures { Rows.Levels self.now.u self.now.scale self.now.base result }
+    {
+        let mut y = [0.0f32; 16];
+        for i in 0..16 {
+            y[i] = self.u[i] * self.scale[i] + self.base[i];
+        }
+        y
+    }
+
+    // The levels, and u one row on. One loop for both: one after the other they miss the speed.
+    fn next_row(&mut self) -> [f32; 16]
+        ensures levels { Rows.Levels self.old.u self.old.scale self.old.base result }
+        ensures moved { Filled nan (Rows.steps_at self.old.u self.old.r self.old.d) 0 16 self.old.u self.new.u }
+        ensures r { self.new.r ≡ self.old.r }
+        ensures d { self.new.d ≡ self.old.d }
+        ensures scale { self.new.scale ≡ self.old.scale }
+        ensures base { self.new.base ≡ self.old.base }
+    {
+        let mut y = [0.0f32; 16];
+        for i in 0..16 {
+            let u = self.u[i];
+            y[i] = u * self.scale[i] + self.base[i];
+            self.u[i] = u * self.r[i] + self.d[i];
+        }
+        y
+    }
+}
+
 // Puts `part` from place `to` on. A loop, since `copy_from_slice` asks at each row whether the two
 // overlap, and misses the speed.
 fn put<P: Copy, const N: usize>(out: &mut [P], to: usize, part: &[P; N])
@@ -40,37 +98,6 @@ fn put<P: Copy, const N: usize>(out: &mut [P], to: usize, part: &[P; N])
     for i in 0..N {
         out[to + i] = part[i];
     }
-}
-
-// The lanes' levels.
-fn levels_of(u: &[f32; 16], scale: &[f32; 16], base: &[f32; 16]) -> [f32; 16]
-    ensures { Rows.Levels u.now scale.now base.now result }
-{
-    let mut y = [0.0f32; 16];
-    for i in 0..16 {
-        y[i] = u[i] * scale[i] + base[i];
-    }
-    y
-}
-
-// The lanes' levels, and u one row on.
-fn next_row(
-    u: &mut [f32; 16],
-    r: &[f32; 16],
-    d: &[f32; 16],
-    scale: &[f32; 16],
-    base: &[f32; 16],
-) -> [f32; 16]
-    ensures levels { Rows.Levels u.old scale.now base.now result }
-    ensures moved { Filled nan (Rows.steps_at u.old r.now d.now) 0 16 u.old u.new }
-{
-    let mut y = [0.0f32; 16];
-    for i in 0..16 {
-        let x = u[i];
-        y[i] = x * scale[i] + base[i];
-        u[i] = x * r[i] + d[i];
-    }
-    y
 }
 
 // Whether the sixteen numbers from place `from` on all pass a test. There is no early exit, so that

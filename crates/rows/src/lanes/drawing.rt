@@ -5,9 +5,9 @@ ghost use Rattle.rows.specs.Rows as Rows;
 ghost use Rattle.rows.specs.Strides as Strides;
 
 use crate::lanes::places::Place;
-use crate::lanes::{BLOCK, constant, levels_of, load, next_row, put};
+use crate::lanes::{BLOCK, Lanes, constant, put};
 use crate::strides::groups;
-use memory::{Floats, LANES};
+use memory::Floats;
 
 // The rows of the sixteen lanes from lane g on, which take the places from `at` on in each.
 fn draw_moving<P: Place<N>, const N: usize>(
@@ -21,16 +21,12 @@ fn draw_moving<P: Place<N>, const N: usize>(
     requires { Rows.GroupFits N stride at rows (length out.old) g f.old }
     ensures { Rows.GroupDrawn P.blank N P.cell stride at g rows f.old out.old out.new f.new }
 {
-    let mut u = load(f, g);
-    let r = load(f, g + LANES);
-    let d = load(f, g + 2 * LANES);
-    let scale = load(f, g + 3 * LANES);
-    let base = load(f, g + 4 * LANES);
+    let mut lanes = Lanes::new(f, g);
     for k in 0..rows {
-        let y = next_row(&mut u, &r, &d, &scale, &base);
+        let y = lanes.next_row();
         put(out, at + k as usize * stride, &P::row_of(&y));
     }
-    put(f, g, &u);
+    put(f, g, &lanes.u);
 }
 
 // The same of lanes that stay: every row is the first.
@@ -47,30 +43,9 @@ fn draw_still<P: Place<N>, const N: usize>(
     requires some { 1 ≤ rows }
     ensures { Rows.Laid P.blank N P.cell stride at rows (λ k i. Rows.drawn_at k f.now (g + i)) out.old out.new }
 {
-    let u = load(f, g);
-    let scale = load(f, g + 3 * LANES);
-    let base = load(f, g + 4 * LANES);
-    let row = P::row_of(&levels_of(&u, &scale, &base));
+    let row = P::row_of(&Lanes::new(f, g).levels());
     for k in 0..rows {
         put(out, at + k as usize * stride, &row);
-    }
-}
-
-fn draw_group<P: Place<N>, const N: usize>(
-    out: &mut [P],
-    at: usize,
-    stride: usize,
-    rows: u32,
-    f: &mut Floats,
-    g: usize,
-)
-    requires { Rows.GroupFits N stride at rows (length out.old) g f.old }
-    ensures { Rows.GroupDrawn P.blank N P.cell stride at g rows f.old out.old out.new f.new }
-{
-    if constant(rows, f, g) {
-        draw_still(out, at, stride, rows, f, g);
-    } else {
-        draw_moving(out, at, stride, rows, f, g);
     }
 }
 
@@ -80,7 +55,11 @@ fn draw_block<P: Place<N>, const N: usize>(out: &mut [P], f: &mut Floats, groups
     ensures { Rows.Drawn P.blank N P.cell groups rows f.old out.old out.new f.new }
 {
     for q in 0..groups {
-        draw_group(out, N * q, N * groups, rows, f, 16 * q);
+        if constant(rows, f, 16 * q) {
+            draw_still(out, N * q, N * groups, rows, f, 16 * q);
+        } else {
+            draw_moving(out, N * q, N * groups, rows, f, 16 * q);
+        }
     }
 }
 

@@ -1,7 +1,7 @@
 -- `draw` meets its contract. The loop's invariant: the first rows, `done` of them, are drawn.
 use Rattle.std.proofs.Common.{refl, ◌+◌, ◌*◌, ◌≤◌, length, length-take, length-drop, arith}
 use Rattle.rows.proofs.RowsDrawn.{run_fits}
-use Rattle.rows.proofs.BlocksDrawn.{block-rows, drawn_nothing, drawn_on}
+use Rattle.rows.proofs.BlocksDrawn.{block-rows, drawn_on}
 use Rattle.rows.proofs.lanes.drawing.draw.Given.{Over}
 use Rattle.rows.proofs.lanes.drawing.draw.Goals as goal
 use Rattle.rows.proofs.lanes.drawing.draw.Goals.{After-min-n}
@@ -17,9 +17,6 @@ fits g c =
     let rows = block-rows groups (omega arith) (omega arith) in
     let run = run_fits c.loop-done.done n c.args.rows (g.row.N * groups) (omega arith) in
     (omega arith, omega arith, omega arith)
-
-pub loop-done-init : goal.loop-done-init
-loop-done-init g c = (omega arith, drawn_nothing g.P.Place.blank g.row.N g.P.Place.cell _ _ _)
 
 pub draw_block-requires : goal.draw_block-requires
 draw_block-requires g c =

@@ -1,22 +1,24 @@
--- `draw_block` meets its contract. The loop's invariant: the first q groups are drawn.
-use Rattle.std.proofs.Common.{◌≡◌, subst, ℕ, ◌*◌, arith}
-use Rattle.rows.proofs.GroupsDrawn.{GroupsDrawn, groups_none, groups_more, groups_all}
+-- `draw_block` meets its contract. The loop's invariant: the first q groups are drawn. A group is drawn by whichever of the two loops the test chose:
+-- `draw_still` leaves the array as it is, and rows would too, since these lanes are constant (`group_still`).
+use Rattle.std.proofs.Common.{◌*◌}
+use Rattle.rows.specs.Rows.{GroupDrawn}
+use Rattle.rows.proofs.GroupsDrawn.{group_still, groups_more}
 use Rattle.rows.proofs.lanes.drawing.draw_block.Goals as goal
-
-pub loop-q-init : goal.loop-q-init
-loop-q-init g c = groups_none g.P.Place.blank g.row.N g.P.Place.cell _ _ _ _
-
-pub returns : goal.returns
-returns g c =
-    let a = c.args in
-    let l = c.loop-q in
-    let e : l.q ≡ a.groups = omega arith in
-    groups_all g.P.Place.blank g.row.N g.P.Place.cell a.groups a.rows a.f.now a.out.now l.out l.f (omega arith)
-    (subst (λ (q : ℕ). GroupsDrawn g.P.Place.blank g.row.N g.P.Place.cell (g.row.N * a.groups) q a.rows a.f.now a.out.now l.out l.f) e l.invariant)
+use Rattle.rows.proofs.lanes.drawing.draw_block.Goals.{then-constant, else-constant}
 
 pub loop-q-preserved : goal.loop-q-preserved
 loop-q-preserved g c =
-    let l = c.loop-q in
     let a = c.args in
-    groups_more g.P.Place.blank g.row.N g.P.Place.cell g.met.P.Place.told g.met.P.Place.shifts (g.row.N * a.groups) l.q a.rows a.f.now l.f a.out.now l.out _ _
-    l.invariant c.draw_group.ensures
+    let l = c.loop-q in
+    let p = g.P.Place in
+    let stride = g.row.N * a.groups in
+    let at = g.row.N * l.q in
+    let drawn : GroupDrawn p.blank g.row.N p.cell stride at (16 * l.q) a.rows l.f l.out c.if-constant.out c.if-constant.f =
+    elim c.if-constant.branch [
+      | then-constant w ↦
+          rw (w.out-is, w.f-is)
+          (group_still p.blank g.row.N p.cell stride at (16 * l.q) a.rows l.f l.out _ (c.constant.ensures w.if-constant.true).0 w.draw_still.ensures)
+      | else-constant w ↦ rw (w.out-is, w.f-is) w.draw_moving.ensures
+    ]
+    in
+    groups_more p.blank g.row.N p.cell g.met.P.Place.told g.met.P.Place.shifts stride l.q a.rows a.f.now l.f a.out.now l.out _ _ l.invariant drawn

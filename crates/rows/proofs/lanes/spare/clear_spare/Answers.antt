@@ -5,11 +5,8 @@ use Rattle.std.specs.Float.Ieee.{of_bits}
 use Rattle.memory.specs.Memory.{max_voices}
 use Rattle.rows.specs.Rows.{Cleared}
 use Rattle.rows.specs.Strides.{stride_of}
-use Rattle.rows.proofs.SpareLanes.{cleared_none, cleared_more}
+use Rattle.rows.proofs.SpareLanes.{cleared_more}
 use Rattle.rows.proofs.lanes.spare.clear_spare.Goals as goal
-
-pub loop-w-init : goal.loop-w-init
-loop-w-init c = cleared_none _ _
 
 pub loop-w-preserved : goal.loop-w-preserved
 unfolding of_bits

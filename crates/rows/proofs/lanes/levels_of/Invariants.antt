@@ -1,8 +1,0 @@
--- `levels_of` meets its contract. The loop's invariant: the first i levels are those of the lanes.
-use Rattle.std.proofs.Common.{◌≡◌, ℕ, ◌<◌, length, get_or}
-use Rattle.std.specs.Float.{nan}
-use Rattle.rows.specs.Rows.{levels_at}
-use Rattle.rows.proofs.lanes.levels_of.Given as goal
-
-abbrev pub invariant-loop-i : goal.invariant-loop-i
-invariant-loop-i l = (length l.y ≡ 16) × ((k : ℕ) → k < l.i → get_or l.y k nan ≡ levels_at l.u l.scale l.base k)
