@@ -6,66 +6,31 @@
 // the output, at most 65,536 bytes, in which byte i was i % 251 before the call.
 #![tactic(auto)]
 
-ghost use Rattle.std.specs.Prelude.{◌+◌, ◌≤◌, ◌<◌, length};
+ghost use Rattle.std.specs.Prelude.{◌≡◌, ◌≤◌, length};
 
 use std::io;
 use std::io::{ErrorKind, Read, Write};
 
-fn wide(x: u8) -> u64
-    ensures { result < 256 }
-{
-    x as u64
-}
-
-// A length, at most `most`.
-fn length_at(head: &[u8], at: usize, most: usize) -> usize
-    requires { at + 4 ≤ length head.now }
+// A length in four bytes, at most `most`.
+fn length_of(bytes: &[u8], most: usize) -> usize
+    requires { length bytes.now ≡ 4 }
     ensures { result ≤ most }
 {
-    let n = (wide(head[at])
-        + wide(head[at + 1]) * 0x100
-        + wide(head[at + 2]) * 0x1_0000
-        + wide(head[at + 3]) * 0x100_0000) as usize;
-    if n < most {
-        return n;
-    }
-    most
+    let n = u32::from_le_bytes([bytes[0], bytes[1], bytes[2], bytes[3]]);
+    (n as usize).min(most)
 }
 
 fn fill(out: &mut [u8]) {
-    let mut i = 0;
-    while i < out.len() {
-        out[i] = (i % 251) as u8;
-        i += 1;
+    for (i, byte) in out.iter_mut().enumerate() {
+        *byte = (i % 251) as u8;
     }
-}
-
-// Eight bytes, the lowest first.
-fn write_word(to: &mut impl Write, n: u64) -> io::Result<()> {
-    let mut bytes = [0u8; 8];
-    let mut rest = n;
-    let mut i = 0;
-    while i < 8 {
-        bytes[i] = (rest % 0x100) as u8;
-        rest /= 0x100;
-        i += 1;
-    }
-    to.write_all(&bytes)
-}
-
-// The bits of a signed number.
-fn word(n: i64) -> u64 {
-    if n < 0 {
-        return 0xffff_ffff_ffff_ffff - ((-1 - n) as u64);
-    }
-    n as u64
 }
 
 fn answer(to: &mut impl Write, list: &[u8], out: &mut [u8]) -> io::Result<()> {
     fill(out);
     let result = player::play(list, out);
-    write_word(to, word(result))?;
-    write_word(to, player::refused_at(list, out.len()))?;
+    to.write_all(&result.to_le_bytes())?;
+    to.write_all(&player::refused_at(list, out.len()).to_le_bytes())?;
     to.write_all(out)
 }
 
@@ -82,18 +47,16 @@ fn main(rt: HostRuntime) -> io::Result<()> {
     let mut head = [0u8; 8];
     let mut list = [0u8; 16384];
     let mut out = [0u8; 65536];
-    let mut lists: u64 = 0xffff_ffff_ffff_ffff;
-    while lists > 0 {
+    for _ in 0..u64::MAX {
         if !read_whole(&mut rt.stdin(), &mut head)? {
             return Ok(());
         }
-        let len = length_at(&head, 0, 16384);
-        let out_len = length_at(&head, 4, 65536);
-        if !read_whole(&mut rt.stdin(), &mut list[0..len])? {
+        let len = length_of(&head[..4], 16384);
+        let out_len = length_of(&head[4..], 65536);
+        if !read_whole(&mut rt.stdin(), &mut list[..len])? {
             return Ok(());
         }
-        answer(&mut rt.stdout(), &list[0..len], &mut out[0..out_len])?;
-        lists -= 1;
+        answer(&mut rt.stdout(), &list[..len], &mut out[..out_len])?;
     }
     Ok(())
 }
