@@ -17,12 +17,16 @@ use memory::Arrays;
 use rows::Place;
 use settings::Refusal;
 
+// `voices` is at most 64 here and below. It is a plain number, since those of `rows` take any, and a type for
+// it would be taken apart at each call.
+
 // Each voice whose segment has ended has what follows it.
 fn follow(m: &mut Arrays, voices: usize)
     requires { voices ≤ Memory.max_voices }
     ensures { Parts.Spread (Parts.followed (Memory.timing_at m.old.bends)) voices m.old m.new }
 {
     let timing = m.timing();
+    // From one that ended to the next: a range would test every voice.
     let mut v = rows::next_ended(&m.codes, voices, 0);
     while v < voices {
         change_voice(m, v, timing, Change::Follow);
@@ -69,6 +73,7 @@ fn draw_frames<P: Place<N>, const N: usize>(
 {
     let row = N * rows::groups(voices);
     rows::clear_spare(&mut m.floats, voices);
+    // Runs are of different lengths, which are known one after the other: no range has them.
     let mut done = 0;
     while done < frames {
         let end = rows::until_end(&m.codes, voices);

@@ -1,4 +1,5 @@
 // What is read of the bank, and of one of its voices. Refused, where a voice is named: 2 no such voice.
+// The readings of a voice differ in what they read, not in a type: one over a closure would be as many lines.
 ghost use Rattle.std.specs.Prelude.{◌≡◌};
 ghost use Rattle.rows.specs.Strides as Strides;
 ghost use Rattle.bank.specs.Banks as Banks;

@@ -114,6 +114,7 @@ impl Passed {
         requires { (self.old.known.voices ≤ Memory.max_voices) × (self.old.frames * Strides.stride_of self.old.known.voices ≤ room) × (room < 2 ^ 62) }
         ensures { Checks.seen result self.new ≡ Checks.checked_from (length list.now) list.now room (Checks.so_far self.old) }
     {
+        // Records are of different lengths: no range has them.
         while self.at < list.len() {
             self.record(list, room)?;
         }

@@ -1,4 +1,4 @@
-// What the bodies of records say.
+// What the bodies of records say, by their place in the list, as in bytes.rt.
 ghost use Rattle.std.specs.Prelude.{◌≡◌, ◌+◌, ◌≤◌, length};
 ghost use Rattle.events.specs.Format as Format;
 

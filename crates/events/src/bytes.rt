@@ -1,4 +1,5 @@
-// Numbers in the bytes of a list, the lowest byte first.
+// Numbers in the bytes of a list, the lowest byte first. They are read by their place in the whole list, as the
+// definitions have it: a slice for each would be no plainer, since all would have to be shifted back.
 ghost use Rattle.std.specs.Prelude.{◌≡◌, ◌+◌, ◌≤◌, length};
 ghost use Rattle.numbers.specs.Bytes as Bytes;
 ghost use Rattle.events.specs.Format as Format;

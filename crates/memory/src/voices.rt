@@ -15,11 +15,18 @@ use curve::Segment;
 use lane::{Lane, Spec, Voice};
 use settings::{EnvelopeParams, Stage};
 
+// The number of a voice for which there is room.
+#[derive(Clone, Copy)]
+struct Slot {
+    v: usize,
+    ghost room: { v < Memory.max_voices },
+}
+
 impl Arrays {
-    fn load_params(&self, v: usize) -> EnvelopeParams
-        requires { v < Memory.max_voices }
-        ensures { result ≡ Memory.params_at self.now.floats self.now.codes v }
+    fn load_params(&self, slot: Slot) -> EnvelopeParams
+        ensures { result ≡ Memory.params_at self.now.floats self.now.codes slot.v }
     {
+        let v = slot.v;
         let f = &self.floats;
         let c = &self.codes;
         EnvelopeParams {
@@ -40,20 +47,20 @@ impl Arrays {
         }
     }
 
-    fn load_stage(&self, v: usize) -> Stage
-        requires { v < Memory.max_voices }
-        ensures { result ≡ Memory.stage_at self.now.codes v }
+    fn load_stage(&self, slot: Slot) -> Stage
+        ensures { result ≡ Memory.stage_at self.now.codes slot.v }
     {
+        let v = slot.v;
         stage_named(self.codes[69 + 5 * v + 4])
     }
 
-    fn load_lane(&self, v: usize) -> Lane
-        requires { v < Memory.max_voices }
-        ensures { result ≡ Memory.lane_of (Memory.floats_at self.now.floats v) (Memory.bends_at self.now.bends v) (Memory.counts_at self.now.counts v) (Memory.codes_at self.now.codes v) (Memory.params_at self.now.floats self.now.codes v) (Memory.stage_at self.now.codes v) }
+    fn load_lane(&self, slot: Slot) -> Lane
+        ensures { result ≡ Memory.lane_of (Memory.floats_at self.now.floats slot.v) (Memory.bends_at self.now.bends slot.v) (Memory.counts_at self.now.counts slot.v) (Memory.codes_at self.now.codes slot.v) (Memory.params_at self.now.floats self.now.codes slot.v) (Memory.stage_at self.now.codes slot.v) }
     {
+        let v = slot.v;
         Lane {
-            params: self.load_params(v),
-            stage: self.load_stage(v),
+            params: self.load_params(slot),
+            stage: self.load_stage(slot),
             spec: Spec {
                 total: self.counts[3 * v],
                 to: self.floats[340 + 14 * v + 11],
@@ -68,10 +75,10 @@ impl Arrays {
         }
     }
 
-    fn load_segment(&self, v: usize) -> Segment
-        requires { v < Memory.max_voices }
-        ensures { result ≡ Memory.segment_at self.now.floats self.now.codes v }
+    fn load_segment(&self, slot: Slot) -> Segment
+        ensures { result ≡ Memory.segment_at self.now.floats self.now.codes slot.v }
     {
+        let v = slot.v;
         Segment {
             u: self.floats[v],
             r: self.floats[v + 68],
@@ -88,8 +95,8 @@ impl Arrays {
     {
         if v < MAX_VOICES {
             return Voice {
-                lane: self.load_lane(v),
-                seg: self.load_segment(v),
+                lane: self.load_lane(Slot { v }),
+                seg: self.load_segment(Slot { v }),
             };
         }
         Lane::new(EnvelopeParams::AMP)
@@ -100,7 +107,7 @@ impl Arrays {
         ensures { result ≡ Memory.if_room v (Memory.params_at self.now.floats self.now.codes v) amp }
     {
         if v < MAX_VOICES {
-            return self.load_params(v);
+            return self.load_params(Slot { v });
         }
         EnvelopeParams::AMP
     }
@@ -110,7 +117,7 @@ impl Arrays {
         ensures { result ≡ Memory.if_room v (Memory.stage_at self.now.codes v) Idle }
     {
         if v < MAX_VOICES {
-            return self.load_stage(v);
+            return self.load_stage(Slot { v });
         }
         Stage::Idle
     }
@@ -120,7 +127,7 @@ impl Arrays {
         ensures { result ≡ Memory.if_room v (Memory.segment_at self.now.floats self.now.codes v) (Segments.constant Constants.zero 0) }
     {
         if v < MAX_VOICES {
-            return self.load_segment(v);
+            return self.load_segment(Slot { v });
         }
         Segment::constant(0.0, 0)
     }
@@ -132,18 +139,19 @@ impl Arrays {
         if v >= MAX_VOICES {
             return;
         }
-        store_floats(&mut self.floats, v, voice.lane);
-        store_counts(&mut self.bends, &mut self.counts, v, voice.lane);
-        store_codes(&mut self.codes, v, voice.lane);
-        store_segment(&mut self.floats, &mut self.codes, v, voice.seg);
+        let slot = Slot { v };
+        store_floats(&mut self.floats, slot, voice.lane);
+        store_counts(&mut self.bends, &mut self.counts, slot, voice.lane);
+        store_codes(&mut self.codes, slot, voice.lane);
+        store_segment(&mut self.floats, &mut self.codes, slot, voice.seg);
     }
 }
 
-fn store_segment(f: &mut Floats, c: &mut Codes, v: usize, s: Segment)
-    requires { v < Memory.max_voices }
-    ensures floats { f.new ≡ Spaced.puts 68 f.old v (s.u ∷ s.r ∷ s.d ∷ s.scale ∷ s.base ∷ []) }
-    ensures codes { c.new ≡ set c.old v s.left }
+fn store_segment(f: &mut Floats, c: &mut Codes, slot: Slot, s: Segment)
+    ensures floats { f.new ≡ Spaced.puts 68 f.old slot.v (s.u ∷ s.r ∷ s.d ∷ s.scale ∷ s.base ∷ []) }
+    ensures codes { c.new ≡ set c.old slot.v s.left }
 {
+    let v = slot.v;
     f[v] = s.u;
     f[v + 68] = s.r;
     f[v + 136] = s.d;
@@ -152,10 +160,10 @@ fn store_segment(f: &mut Floats, c: &mut Codes, v: usize, s: Segment)
     c[v] = s.left;
 }
 
-fn store_floats(f: &mut Floats, v: usize, lane: Lane)
-    requires { v < Memory.max_voices }
-    ensures { f.new ≡ Spaced.puts 1 f.old (340 + 14 * v) (Memory.floats_of lane.params lane.spec lane.from lane.to) }
+fn store_floats(f: &mut Floats, slot: Slot, lane: Lane)
+    ensures { f.new ≡ Spaced.puts 1 f.old (340 + 14 * slot.v) (Memory.floats_of lane.params lane.spec lane.from lane.to) }
 {
+    let v = slot.v;
     let p = lane.params;
     f[340 + 14 * v] = p.delay;
     f[340 + 14 * v + 1] = p.attack;
@@ -173,11 +181,11 @@ fn store_floats(f: &mut Floats, v: usize, lane: Lane)
     f[340 + 14 * v + 13] = lane.to;
 }
 
-fn store_counts(k: &mut Bends, n: &mut Counts, v: usize, lane: Lane)
-    requires { v < Memory.max_voices }
-    ensures bends { k.new ≡ Spaced.puts 1 k.old (3 + 2 * v) (lane.spec.k ∷ lane.k ∷ []) }
-    ensures counts { n.new ≡ Spaced.puts 1 n.old (3 * v) (lane.spec.total ∷ lane.curve_total ∷ lane.pos ∷ []) }
+fn store_counts(k: &mut Bends, n: &mut Counts, slot: Slot, lane: Lane)
+    ensures bends { k.new ≡ Spaced.puts 1 k.old (3 + 2 * slot.v) (lane.spec.k ∷ lane.k ∷ []) }
+    ensures counts { n.new ≡ Spaced.puts 1 n.old (3 * slot.v) (lane.spec.total ∷ lane.curve_total ∷ lane.pos ∷ []) }
 {
+    let v = slot.v;
     k[3 + 2 * v] = lane.spec.k;
     k[3 + 2 * v + 1] = lane.k;
     n[3 * v] = lane.spec.total;
@@ -185,10 +193,10 @@ fn store_counts(k: &mut Bends, n: &mut Counts, v: usize, lane: Lane)
     n[3 * v + 2] = lane.pos;
 }
 
-fn store_codes(c: &mut Codes, v: usize, lane: Lane)
-    requires { v < Memory.max_voices }
-    ensures { c.new ≡ Spaced.puts 1 c.old (69 + 5 * v) (Memory.codes_of lane) }
+fn store_codes(c: &mut Codes, slot: Slot, lane: Lane)
+    ensures { c.new ≡ Spaced.puts 1 c.old (69 + 5 * slot.v) (Memory.codes_of lane) }
 {
+    let v = slot.v;
     let p = lane.params;
     c[69 + 5 * v] = lane.seg_len;
     c[69 + 5 * v + 1] = unit_code(p.unit);

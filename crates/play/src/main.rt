@@ -61,6 +61,7 @@ fn show(to: &mut impl Write, list: &[u8], out: &mut [u8]) -> io::Result<()> {
 fn read_full(from: &mut impl Read, bytes: &mut [u8]) -> io::Result<usize>
     ensures { IfOk result (λ n. n ≤ length bytes.new) }
 {
+    // A read may give fewer bytes than there is room for, so no range has the steps.
     let mut done = 0;
     while done < bytes.len() {
         let n = from.read(&mut bytes[done..])?;

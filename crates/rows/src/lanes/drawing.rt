@@ -1,4 +1,5 @@
-// Rows drawn, into floats or into bytes.
+// Rows drawn, into floats or into bytes. A group's places are told by `at` and `stride` within the whole output,
+// since those of other groups lie between them.
 ghost use Rattle.std.specs.Prelude.{◌+◌, ◌*◌, ◌≤◌, min, length};
 ghost use Rattle.memory.specs.Memory as Memory;
 ghost use Rattle.rows.specs.Rows as Rows;
