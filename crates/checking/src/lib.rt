@@ -62,22 +62,22 @@ fn check_event(known: Known, event: Event) -> Result<(), Refusal>
 fn known_after(known: Known, event: Event) -> Known
     ensures { result ≡ Deeds.known_after known (Deeds.deed known event) }
 {
-    match event {
-        Event::Open { voices, .. } => Known {
+    if let Event::Open { voices, .. } = event {
+        return Known {
             voices: voices as usize,
-        },
-        _ => known,
+        };
     }
+    known
 }
 
 #[tactic(auto, unfolding(crate::specs::Deeds::frames_of))]
 fn frames_of(event: Event) -> u64
     ensures { (result ≡ Deeds.frames_of event) × (result < 2 ^ 32) }
 {
-    match event {
-        Event::Frames(count) => count as u64,
-        _ => 0,
+    if let Event::Frames(count) = event {
+        return count as u64;
     }
+    0
 }
 
 impl Passed {
