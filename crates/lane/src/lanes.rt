@@ -133,6 +133,7 @@ fn find(p: EnvelopeParams, timing: Timing, first: Stage, first_level: f32) -> En
 {
     let mut stage = first;
     let mut level = first_level;
+    // From stage to stage, as the Rust: nothing is counted.
     loop {
         let spec = spec_of(p, stage, timing, level);
         if stage.holds() {
@@ -238,11 +239,11 @@ impl Lane {
     {
         let rest = numbers::saturating_sub(self.curve_total, self.pos);
         let len = rest.min(MAX_SEGMENT as u64) as u32;
+        // In place: by struct update planning takes more instructions.
+        let mut lane = self;
+        lane.seg_len = len;
         Voice {
-            lane: Lane {
-                seg_len: len,
-                ..self
-            },
+            lane,
             seg: curve::segment(self.from, self.to, self.k, self.curve_total, self.pos, len),
         }
     }
@@ -252,9 +253,10 @@ impl Lane {
     pub fn advance(self, timing: Timing) -> Voice
         ensures { result ≡ Planning.advance timing self }
     {
-        let pos = numbers::saturating_add(self.pos, self.seg_len as u64);
-        let lane = Lane { pos, ..self };
-        if pos < lane.curve_total {
+        // In place: by struct update a frame takes twice as long.
+        let mut lane = self;
+        lane.pos = numbers::saturating_add(self.pos, self.seg_len as u64);
+        if lane.pos < lane.curve_total {
             return lane.start_segment();
         }
         lane.enter(timing, lane.stage.next(), lane.to)

@@ -26,6 +26,7 @@ fn stages_last(p: EnvelopeParams, timing: Timing, first: Stage, first_level: f32
     let mut stage = first;
     let mut level = first_level;
     let mut sum = 0;
+    // From stage to stage: nothing is counted.
     while !stage.holds() {
         let spec = spec_of(p, stage, timing, level);
         let joined = join(p, stage, level, spec);
@@ -75,13 +76,9 @@ impl Voice {
     fn restart_level(self) -> f32
         ensures { result ≡ Voices.restart_level self }
     {
-        let start = numbers::unit(self.lane.params.start);
-        if self.lane.stage.is_idle() {
-            return start;
-        }
         match self.lane.params.steal_restart {
-            StealRestart::CurrentLevel => self.seg.level(),
-            StealRestart::StartLevel => start,
+            StealRestart::CurrentLevel if !self.lane.stage.is_idle() => self.seg.level(),
+            _ => numbers::unit(self.lane.params.start),
         }
     }
 
@@ -110,10 +107,12 @@ impl Voice {
     pub fn release(self, timing: Timing) -> Voice
         ensures { result ≡ Voices.release timing self }
     {
-        if self.lane.stage.is_released() {
+        // The lane by itself: taken from the voice after the test it is copied once more.
+        let lane = self.lane;
+        if lane.stage.is_released() {
             return self;
         }
-        self.lane.enter(timing, Stage::Release, self.seg.level())
+        lane.enter(timing, Stage::Release, self.seg.level())
     }
 
     // Idle with no release before it; Idle does not ask for the level that is handed to `enter`.

@@ -2,10 +2,10 @@ use borrow.Author.Tests.{lt-ltb, le-ltb}
 use Rattle.lane.specs.Planning.{advance, moved}
 use Rattle.lane.proofs.lanes.Lane.advance.Goals as goal
 
-pub returns-then-pos-lane : goal.returns-then-pos-lane
+pub returns-then-lane : goal.returns-then-lane
 unfolding advance moved
-returns-then-pos-lane c =
-    simp (c.start_segment.ensures, c.saturating_add-pos.ensures, lt-ltb _ _ (simp c.saturating_add-pos.ensures at c.if-pos-lane.true))
+returns-then-lane c =
+    simp (c.start_segment.ensures, c.saturating_add.ensures, lt-ltb _ _ (simp c.saturating_add.ensures at c.if-lane.true))
 
 pub returns : goal.returns
 unfolding advance moved
@@ -13,6 +13,6 @@ returns c =
     simp (
       c.enter.ensures,
       c.next.ensures,
-      c.saturating_add-pos.ensures,
-      le-ltb _ _ (simp c.saturating_add-pos.ensures at c.if-pos-lane.false),
+      c.saturating_add.ensures,
+      le-ltb _ _ (simp c.saturating_add.ensures at c.if-lane.false),
     )
