@@ -1,4 +1,4 @@
-// The calls and readings of the single envelope.
+// The calls and readings of the single envelope. Calls of one shape differ in what they call, not in a type.
 ghost use Rattle.std.specs.Prelude.{◌≡◌};
 ghost use Rattle.envelope.specs.Envelopes as Envelopes;
 

@@ -102,6 +102,8 @@ impl Arrays {
         Lane::new(EnvelopeParams::AMP)
     }
 
+    // Each reading has its own value where there is no room: one over a closure would be no plainer.
+
     // Its settings alone.
     pub fn params(&self, v: usize) -> EnvelopeParams
         ensures { result ≡ Memory.if_room v (Memory.params_at self.now.floats self.now.codes v) amp }
