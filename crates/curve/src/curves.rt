@@ -57,6 +57,14 @@ pub fn time_at(k: f64, v: f64) -> f64
     }
 }
 
+// The curve's level p samples in, of n.
+// No closure of `segment`, whose captures would go through memory: it took 1 % more of planning.
+fn at(from: f64, span: f64, k: f64, n: f64, p: u64) -> f64
+    ensures { result ≡ Curves.at from span k n p }
+{
+    from + span * progress(k, numbers::of_u64(p) / n)
+}
+
 // Whether a segment is drawn straight. With r = 1 it has to be: r^len - 1, by which a bent one's way is
 // divided, would be 0.
 fn is_straight(bent: f64, r: f32) -> bool
@@ -75,12 +83,8 @@ pub fn segment(from: f32, to: f32, k: f64, total: u64, pos: u64, len: u32) -> Se
         return Segment::constant(from, len);
     }
     let n = numbers::of_u64(total);
-    // The curve's level p samples in.
-    let at = |p: u64| -> f64
-        ensures { result ≡ Curves.at wide span k n p }
-    { wide + span * progress(k, numbers::of_u64(p) / n) };
-    let start = at(pos);
-    let end = at(numbers::saturating_add(pos, len as u64));
+    let start = at(wide, span, k, n, pos);
+    let end = at(wide, span, k, n, numbers::saturating_add(pos, len as u64));
     let r = numbers::narrow(numbers::exp(-k / n));
     if is_straight(k * (len as f64) / n, r) {
         return Segment {

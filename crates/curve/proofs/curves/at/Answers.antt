@@ -1,6 +1,6 @@
 -- `at`: the definition's operations in their order.
 use Rattle.curve.specs.Curves.{at}
-use Rattle.curve.proofs.curves.fn.segment.at.Goals as goal
+use Rattle.curve.proofs.curves.at.Goals as goal
 
 pub returns : goal.returns
 unfolding at
