@@ -42,6 +42,10 @@ extern "C" {
  * took a bank's four arrays one by one; a bank lies as it did there. */
 #define WORFELLI_VERSION 2u
 
+/* The first version whose banks lie as this one's: a stored bank of any version from it to WORFELLI_VERSION
+ * goes on as it would have. */
+#define WORFELLI_BANK_SINCE 1u
+
 /* What a call or a list is refused by; 0 is accepted. */
 enum {
     WORFELLI_TOO_MANY_VOICES = 1,   /* more than WORFELLI_MAX_VOICES */

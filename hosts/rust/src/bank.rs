@@ -248,14 +248,14 @@ impl EnvelopeBank {
     ///
     /// # Errors
     ///
-    /// If the bank is of another version, which may lay it out in another way.
+    /// If the bank is of a version that may lay it out in another way.
     ///
     /// # Panics
     ///
     /// As [`new`](Self::new).
     pub fn from_bytes(bytes: &[u8; Self::SIZE]) -> Result<Self, OtherVersion> {
         let state = State::from_bytes(bytes);
-        if state.version == raw::VERSION {
+        if (raw::BANK_SINCE..=raw::VERSION).contains(&state.version) {
             Ok(Self { state })
         } else {
             Err(OtherVersion {

@@ -6,6 +6,9 @@ use std::arch::asm;
 /// The version of include/worfelli.h that this file follows.
 pub(crate) const VERSION: u32 = 2;
 
+/// The first version whose banks lie as this one's.
+pub(crate) const BANK_SINCE: u32 = 1;
+
 const BENDS: usize = 131;
 const COUNTS: usize = 192;
 const FLOATS: usize = 1236;
