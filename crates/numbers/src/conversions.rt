@@ -1,5 +1,5 @@
-// Widening, narrowing and rounding. Rattle's own `as` is defined only where it loses nothing, so
-// the lossy conversions work on the exponent field and the digits of the bit pattern.
+// Widening, narrowing and rounding. The lossy conversions work on the exponent field and the digits of
+// the bit pattern.
 ghost use Rattle.std.specs.Prelude.{◌≡◌, ◌^◌, ◌<◌, false, pos};
 ghost use Rattle.std.specs.Float.{binary64};
 ghost use Rattle.std.specs.Float.Ieee.{of_fields, of_int};

@@ -16,7 +16,7 @@ fn trigger(code: u8) -> Trigger {
 }
 
 impl Call {
-    // A number of the input's, as main.rt's head has them: an enum would list them once more, to be matched once.
+    // A number of the input's, as main.rt's head has them: an enum would list them once more.
     pub(crate) fn tag(&self) -> u8 {
         self.bytes[0]
     }

@@ -7,7 +7,7 @@ use settings::{EnvelopeParams, Stage};
 use std::io;
 use std::io::Write;
 
-// The lower word of a number, and the higher. No `as`, which has to lose nothing.
+// The lower word of a number, and the higher. Not by `as` alone, which has to lose nothing.
 pub(crate) fn low(x: u64) -> u32 {
     (x % 0x1_0000_0000) as u32
 }
