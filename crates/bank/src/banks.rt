@@ -21,7 +21,7 @@ impl Bank {
     };
 }
 
-// Whether there is such a voice.
+// Whether there is such a voice: as `Known::check_voice`, but that says the number, and the calls want the two facts.
 pub(crate) fn check(m: &Arrays, v: usize) -> Result<(), Refusal>
     ensures { MatchResult result (λ _. v < Memory.count_of m.now.codes) (λ e. (e ≡ NoSuchVoice) × (Memory.count_of m.now.codes ≤ v)) }
 {

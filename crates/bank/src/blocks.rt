@@ -17,8 +17,7 @@ use memory::Arrays;
 use rows::Place;
 use settings::Refusal;
 
-// `voices` is at most 64 here and below. It is a plain number, since those of `rows` take any, and a type for
-// it would be taken apart at each call.
+// `voices` is at most 64, and a plain number: `rows` takes any, so a type for it would be taken apart at each call.
 
 // Each voice whose segment has ended has what follows it.
 fn follow(m: &mut Arrays, voices: usize)
@@ -26,7 +25,7 @@ fn follow(m: &mut Arrays, voices: usize)
     ensures { Parts.Spread (Parts.followed (Memory.timing_at m.old.bends)) voices m.old m.new }
 {
     let timing = m.timing();
-    // From one that ended to the next: a range would test every voice.
+    // From one that ended to the next, which `rows` finds: a range with the test here would say it again.
     let mut v = rows::next_ended(&m.codes, voices, 0);
     while v < voices {
         change_voice(m, v, timing, Change::Follow);
@@ -53,10 +52,7 @@ fn pass(m: &mut Arrays, voices: usize, end: u32, run: u32)
 fn shorter(frames: usize, end: u32) -> u32
     ensures { result ≡ min frames end }
 {
-    if frames < end as usize {
-        return frames as u32;
-    }
-    end
+    frames.min(end as usize) as u32
 }
 
 // Draws so many frames of the voices from the output's first place on, run by run; first the lanes of

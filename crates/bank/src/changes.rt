@@ -10,8 +10,7 @@ use memory::Arrays;
 use settings::{EnvelopeParams, Refusal, Trigger};
 use timing::Timing;
 
-// What a call, or a segment's end, makes of a voice. No closure: this way one definition (`Parts.changed`) says
-// what each makes of it, and the loops over voices are proved for a function of the voice.
+// What a call, or a segment's end, makes of a voice. No closure, so that one definition says it (`Parts.changed`).
 #[derive(Clone, Copy)]
 pub(crate) enum Change {
     Params(EnvelopeParams),

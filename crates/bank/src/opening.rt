@@ -14,7 +14,7 @@ use memory::{Arrays, put_timing, put_voices};
 use settings::{EnvelopeParams, Refusal};
 use timing::Timing;
 
-// The first `voices` voices become `voice`.
+// The first `voices` voices become `voice`. As in blocks.rt, `voices` is a plain number, and at most 64.
 fn fill(m: &mut Arrays, voices: usize, voice: Voice)
     requires { voices ≤ Memory.max_voices }
     ensures { Parts.Spread (λ _. voice) voices m.old m.new }

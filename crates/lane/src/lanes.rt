@@ -133,7 +133,7 @@ fn find(p: EnvelopeParams, timing: Timing, first: Stage, first_level: f32) -> En
 {
     let mut stage = first;
     let mut level = first_level;
-    // From stage to stage, as the Rust: nothing is counted.
+    // From stage to stage, as the Rust: nothing is counted, so no range is plainer.
     loop {
         let spec = spec_of(p, stage, timing, level);
         if stage.holds() {

@@ -26,7 +26,7 @@ fn stages_last(p: EnvelopeParams, timing: Timing, first: Stage, first_level: f32
     let mut stage = first;
     let mut level = first_level;
     let mut sum = 0;
-    // From stage to stage: nothing is counted.
+    // From stage to stage: nothing is counted, so no range is plainer.
     while !stage.holds() {
         let spec = spec_of(p, stage, timing, level);
         let joined = join(p, stage, level, spec);

@@ -181,26 +181,6 @@ module _ (m : Arrays) (v : ℕ) (x : Voice) (S : Sized m) (h : v < 64) where
             cc;
       }
 
--- The timing, and the number of voices.
-pub timing-put : (t : Timing) (k : List Float) → length k ≡ bends_length → TimingPut t k (puts 1 k 0 (t.sample_rate ∷ t.tempo ∷ t.scale ∷ []))
-timing-put t k l =
-    record {
-      here =
-          let xs = t.sample_rate ∷ t.tempo ∷ t.scale ∷ [] in
-          let e : spaced nan 1 (puts 1 k 0 xs) 0 3 ≡ xs = spaced-stored nan 1 3 xs k 0 refl (λ p q a e. omega arith) (λ q a. omega (arith, l)) in
-          let made : List Float → Timing = λ l. record { sample_rate = get_or l 0 nan; tempo = get_or l 1 nan; scale = get_or l 2 nan } in
-          ap made e;
-      there = λ w. spaced-kept nan 1 3 (t.sample_rate ∷ t.tempo ∷ t.scale ∷ []) k 0 1 (3 + 2 * w) 2 refl (λ j p a b e. omega arith);
-    }
-
-pub voices-put : (n : ℕ) (c : List ℕ) → length c ≡ codes_length → VoicesPut n c (set c 68 n)
-voices-put n c l =
-    record {
-      here = get_or-set_same c 68 n 0 (omega (arith, l));
-      left = λ w h. get_or-set_other c 68 w n 0 (λ e. omega arith);
-      there = λ w. spaced-kept 0 1 1 (n ∷ []) c 68 1 (69 + 5 * w) 5 refl (λ j p a b e. omega arith);
-    }
-
 -- Nothing is stored.
 pub none-stored : (m : Arrays) (v : ℕ) (x : Voice) → 64 ≤ v → Stored v x m m
 none-stored m v x h =

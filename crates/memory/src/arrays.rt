@@ -77,7 +77,7 @@ impl Arrays {
     }
 }
 
-// As many voices as `voices`, or as there is room for.
+// As many voices as `voices`, or as there is room for. Lent the codes alone, as below the bends: the rest is kept unsaid.
 pub fn put_voices(c: &mut Codes, voices: usize)
     ensures { Memory.VoicesPut (min voices Memory.max_voices) c.old c.new }
 {

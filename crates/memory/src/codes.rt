@@ -1,5 +1,4 @@
-// Codes for what has no number: a code that is none of them is taken for one of the cases, since whatever a
-// bank's numbers are, they are some bank. So these are no TryFrom.
+// Codes for what has no number. Any number is some bank's: a code that is none of them is one of the cases, by no TryFrom.
 ghost use Rattle.std.specs.Prelude.{◌≡◌};
 ghost use Rattle.memory.specs.Memory as Memory;
 

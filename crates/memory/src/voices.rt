@@ -149,6 +149,8 @@ impl Arrays {
     }
 }
 
+// Lent the arrays that they change and no more, so that the rest is kept without being said.
+
 fn store_segment(f: &mut Floats, c: &mut Codes, slot: Slot, s: Segment)
     ensures floats { f.new ≡ Spaced.puts 68 f.old slot.v (s.u ∷ s.r ∷ s.d ∷ s.scale ∷ s.base ∷ []) }
     ensures codes { c.new ≡ set c.old slot.v s.left }

@@ -71,7 +71,7 @@ fn play_records(list: &[u8], out: &mut [u8])
 
 // Plays a list into `out`, four bytes a level, the lowest first: frame after frame, each of as many
 // levels as the bank has lanes. Answers the frames written, or minus the number of the refusal, which
-// leaves `out` as it was.
+// leaves `out` as it was: one number, as document 01 has it and C wants it.
 pub fn play(list: &[u8], out: &mut [u8]) -> i64
     ensures result { result ≡ Playing.result list.now (length out.old) }
     ensures output { out.new ≡ Playing.output list.now out.old }

@@ -34,8 +34,7 @@ fn answer(to: &mut impl Write, list: &[u8], out: &mut [u8]) -> io::Result<()> {
     to.write_all(out)
 }
 
-// Reads until the bytes are full. Whether the input had so many. `replay` has the same: no library of theirs
-// reads, and one for this function alone would be no plainer.
+// Reads until the bytes are full. Whether the input had so many. A library for it, which `replay` has too, is no plainer.
 fn read_whole(from: &mut impl Read, bytes: &mut [u8]) -> io::Result<bool> {
     match from.read_exact(bytes) {
         Ok(()) => Ok(true),

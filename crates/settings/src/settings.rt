@@ -69,16 +69,17 @@ impl EnvelopeParams {
         ..Self::AMP
     };
 
-    // Rust's Default.
-    pub fn default() -> Self
-        ensures { result ≡ Settings.amp }
-    {
-        Self::AMP
-    }
-
     pub fn modulation() -> Self
         ensures { result ≡ Settings.modulation }
     {
         Self::MODULATION
+    }
+}
+
+impl Default for EnvelopeParams {
+    ghost is_default = { λ p. p ≡ Settings.amp };
+
+    fn default() -> Self {
+        Self::AMP
     }
 }

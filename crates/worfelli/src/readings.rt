@@ -11,7 +11,7 @@ use crate::coded;
 use bank::Bank;
 use settings::Refusal;
 
-// What a reading told goes to `place`, unless it was refused; the answer is 0 or its refusal's number.
+// What a reading told goes to `place`, unless it was refused; the answer is C's: 0 or the refusal's number.
 fn told<T: Copy>(reading: Result<T, Refusal>, place: &mut T) -> u32
     ensures refusal { result ≡ Refusals.number_of reading }
     ensures told { place.new ≡ Told.or reading place.old }

@@ -76,7 +76,7 @@ pub fn draw<P: Place<N>, const N: usize>(out: &mut [P], f: &mut Floats, voices: 
     }
     let most = BLOCK / groups as u32;
     let mut done = 0;
-    // A block may have fewer rows than the others: no plainer with `for`.
+    // A block's rows are counted beside its places: `chunks_mut` would have them divided back.
     while done < rows {
         let n = most.min(rows - done);
         draw_block(&mut out[done as usize * stride..], f, groups, n);
