@@ -13,8 +13,7 @@ use bank::Bank;
 use settings::{EnvelopeParams, number_of};
 use timing::Timing;
 
-// Settings and timing stay numbers apart: the form as structs is no plainer, since what is said of
-// settings is said of such lists, and a Timing of Rattle's own lies in no order that C knows.
+// Three numbers, not a struct: no plainer, since C's would be turned into this one field by field.
 fn timing_of(sample_rate: f64, tempo: f64, scale: f64) -> Timing
     ensures { result ≡ Live.timing sample_rate tempo scale }
 {

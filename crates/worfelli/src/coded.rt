@@ -9,6 +9,7 @@ use settings::{EnvelopeParams, Refusal, StealRestart, Trigger, flag_named};
 use timing::TimeUnit;
 
 // The settings of these numbers and codes. Refused: 10 a code that names nothing.
+// Two arrays, not a struct: no plainer, since what is said of settings here is said of such lists.
 pub(crate) fn params(numbers: &[f32; 11], codes: &[u32; 3]) -> Result<EnvelopeParams, Refusal>
     ensures { MatchResult result (λ p. (Coded.named codes.now ≡ true) × (p ≡ Coded.params numbers.now codes.now)) (λ r. (Coded.named codes.now ≡ false) × (r ≡ UnnamedCode)) }
 {
