@@ -1,3 +1,4 @@
+-- `read_full`: read after read. Invariant: the bytes stay as many, and no more than those were read. Fewer are left to read each time.
 use Rattle.std.proofs.Common.{length, ◌-◌, ◌≤◌, ◌≡◌}
 use Rattle.play.proofs.read_full.Given as goal
 

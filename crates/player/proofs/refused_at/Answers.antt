@@ -1,3 +1,4 @@
+-- `refused_at`: the place that the check ensures is what the definition tells of the list (`place-told`).
 use mathlib.Core.Path.{ap, ◌∙◌}
 use Rattle.checking.specs.Checks.{Checked}
 use Rattle.player.proofs.Written.{place-told}

@@ -1,3 +1,5 @@
+-- `follow`: from one voice that ended to the next. The one at hand is followed (`next-followed`), and those up to the next have not ended, so they
+-- stay (`next-found`).
 use mathlib.Core.Path.{◌≡◌, subst}
 use Prim.Native.Nat.{ℕ, ◌+◌}
 use native.Mathlib.Omega.{arith}

@@ -1,3 +1,4 @@
+-- `follow`: from one voice that ended to the next. Invariant: the voices before v have been followed, and v has ended if it is a voice (`Following`).
 use Prim.Native.Nat.{◌-◌}
 use Rattle.bank.proofs.Runs.{Following}
 use Rattle.bank.proofs.blocks.follow.Given as goal

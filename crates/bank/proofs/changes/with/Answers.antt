@@ -1,3 +1,5 @@
+-- `with`: a voice that there is becomes what `change_voice` stored (`one-done`); one that there is not is refused, and nothing is touched
+-- (`one-missing`).
 use mathlib.Core.Path.{ap}
 use Rattle.timing.specs.declared.Timing.{Timing}
 use Rattle.memory.specs.Memory.{timing_at, loaded}

@@ -1,3 +1,4 @@
+-- `with_all`: voice after voice. Invariant: the first v are changed, and every other number is as before (`Spread`).
 use Rattle.bank.specs.Parts.{changed, Spread}
 use Rattle.bank.proofs.changes.with_all.Given as goal
 

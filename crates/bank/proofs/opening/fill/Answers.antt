@@ -1,3 +1,4 @@
+-- `fill`: voice after voice, each stored in a place that there is; one more of them is `spread_more`.
 use mathlib.Core.Path.{◌≡◌, refl, subst}
 use Prim.Native.Nat.{ℕ, ◌<◌}
 use native.Mathlib.Omega.{arith}

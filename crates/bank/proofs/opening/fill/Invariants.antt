@@ -1,3 +1,4 @@
+-- `fill`: voice after voice. Invariant: the first v are the voice that was given, and every other number is as before (`Spread`).
 use Rattle.bank.specs.Parts.{Spread}
 use Rattle.bank.proofs.opening.fill.Given as goal
 

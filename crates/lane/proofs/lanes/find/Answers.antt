@@ -1,3 +1,5 @@
+-- `find`: stage after stage. A stage is skipped (`find_skips`) until one holds (`find-holds`) or has samples left (`find-timed`); after a timed stage
+-- fewer of them are left (`timed-next`).
 use mathlib.Core.Path.{refl, sym, ◌∙◌}
 use native.Mathlib.Omega.{arith}
 use Rattle.lane.proofs.Finding.{timed-next, find-holds, find-timed, find_skips}

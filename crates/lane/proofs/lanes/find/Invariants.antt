@@ -1,3 +1,5 @@
+-- `find`: stage after stage. Invariant: the definition's search from the present stage finds what it finds from the first. Fewer timed stages are
+-- left each time.
 use mathlib.Core.Path.{◌≡◌}
 use Rattle.lane.specs.Planning.{find}
 use Rattle.settings.specs.Stages.{timed_stages}

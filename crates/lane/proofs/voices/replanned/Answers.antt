@@ -1,3 +1,4 @@
+-- `replanned`: each return is a case of `replan`, kept, held, over or begun anew, under the tests that the definition makes in the same order.
 use mathlib.Core.Bool.{◌&&◌}
 use mathlib.Core.Path.{◌≡◌, sym, ◌∙◌}
 use lib.Dec.{eqb}

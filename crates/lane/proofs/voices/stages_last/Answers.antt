@@ -1,3 +1,5 @@
+-- `stages_last`: stage after stage. A timed stage is the next term of the definition's sum (`last-timed`), and from one that holds on nothing is
+-- added (`last-holds`).
 use mathlib.Core.Path.{◌≡◌, sym, ◌∙◌}
 use Prim.Native.Nat.{ℕ, suc, ◌+◌, ◌≤◌}
 use native.Mathlib.Nat.{le_refl, zero-add}

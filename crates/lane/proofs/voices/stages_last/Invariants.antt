@@ -1,3 +1,4 @@
+-- `stages_last`: stage after stage. Invariant: the sum so far and the stages left give the sum of all of them. Fewer timed stages are left each time.
 use mathlib.Core.Path.{◌≡◌}
 use Prim.Native.Nat.{◌+◌, ◌≤◌}
 use Rattle.numbers.specs.Counts.{held}

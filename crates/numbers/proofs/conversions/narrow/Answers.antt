@@ -1,3 +1,5 @@
+-- `narrow`: a NaN stays one (`narrow_nan`); else the sign and what `narrow_fields` ensures are the pattern of the answer (`narrow_pattern`), which is
+-- no NaN and fits in 32 bits.
 use Rattle.std.proofs.Common.{T, sym, ap, ◌∙◌, subst, arith}
 use lib.Ieee.{binary64, fits, of_bits}
 use Rattle.numbers.specs.Conversions.{narrow}

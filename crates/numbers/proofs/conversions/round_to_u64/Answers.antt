@@ -1,3 +1,4 @@
+-- `round_to_u64`: a NaN (`round_nan`) and a number with a sign (`rounded_negative`) give 0; any other is rounded by its fields (`round_fields_lem`).
 use Rattle.std.proofs.Common.{true, false, T, sym, ◌∙◌, subst, le-leb}
 use borrow.Author.Tests.{lt-leb}
 use lib.Ieee.{binary64, fits}

@@ -1,3 +1,4 @@
+-- `unit`: three returns for x inside 0..1, above it and below it, each by its law (`unit-inside`, `unit-above`, `unit-below`).
 use Rattle.std.proofs.Common.{T, sym, subst}
 use lib.Ieee.{binary32, fits, of_bits}
 use Rattle.numbers.proofs.UnitInterval.{unit-inside, unit-above, unit-below}

@@ -1,3 +1,5 @@
+-- `ln_1p`: each return is a branch of L. 1 + a is 1 (`ln_same`); or positive and finite, with m halved (`ln_halved`) or kept (`ln_kept`); or not
+-- (`ln_infinite`, `ln_not_above`).
 use Rattle.std.proofs.Common.{◌/◌, ◌^◌, ◌<◌, T, sym, subst}
 use Rattle.numbers.proofs.Logarithm.{W, positive_not_nan, ln_same, ln_not_above, ln_infinite, ln_halved, ln_kept, field_lt, m_not_nan, field_cast, exponent-fits, raised_fits}
 use lib.Ieee.{binary64, of_bits, to_bits, fits}

@@ -1,3 +1,4 @@
+-- `lead`: no such voice is refused (`reading_missing`); else it is the lead of the voice and the timing that stand there (`reading_present`).
 use mathlib.Core.Path.{refl, ap, ◌∙◌}
 use Prim.Native.Nat.{◌<◌}
 use native.Mathlib.Omega.{arith}

@@ -1,3 +1,4 @@
+-- `level`: no such voice is refused (`reading_missing`); else it is the level of the segment that stands there (`reading_present`).
 use mathlib.Core.Path.{refl, ap, ◌∙◌}
 use Prim.Native.Nat.{◌<◌}
 use native.Mathlib.Omega.{arith}

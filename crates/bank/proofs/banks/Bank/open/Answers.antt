@@ -1,3 +1,5 @@
+-- `open`: refused, the arrays hold the bank of no voices (`none-opened`); else every voice was filled (`voices-opened`), and there is room for them
+-- (`opened_few`).
 use mathlib.Core.Path.{◌≡◌, refl, sym}
 use lib.Ieee.{of_bits}
 use Rattle.settings.specs.Settings.{amp}

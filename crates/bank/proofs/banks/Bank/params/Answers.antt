@@ -1,3 +1,4 @@
+-- `params`: no such voice is refused (`reading_missing`); else they are the settings that stand there (`reading_present`).
 use mathlib.Core.Path.{refl, ap, ◌∙◌}
 use Prim.Native.Nat.{◌<◌}
 use native.Mathlib.Omega.{arith}

@@ -1,3 +1,4 @@
+-- `set_all_params`: the settings' refusal is handed on (`handed`); else `with_all` has changed every voice (`accepted`).
 use mathlib.Core.Path.{sym}
 use Rattle.bank.specs.Calls.{Call, refusal}
 use Rattle.bank.specs.Banks.{bank_of, moved}

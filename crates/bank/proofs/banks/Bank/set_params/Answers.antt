@@ -1,3 +1,5 @@
+-- `set_params`: refused by the test for the voice (`missing`), then by the settings' (`handed`); else what `with` ensures of one voice is the bank's
+-- answer (`of_one`).
 use mathlib.Core.Path.{refl, sym}
 use native.Mathlib.Omega.{arith}
 use borrow.Author.Tests.{lt-ltb}

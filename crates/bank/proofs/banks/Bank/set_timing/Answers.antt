@@ -1,3 +1,5 @@
+-- `set_timing`: the timing's refusal is handed on (`handed`); else the timing was put (`timed-bank`), and `with_all` has replanned every voice by it
+-- (`accepted`).
 use mathlib.Core.Path.{sym, ap, ◌∙◌}
 use Rattle.timing.specs.declared.Timing.{Timing}
 use Rattle.lane.specs.Voices as Voices

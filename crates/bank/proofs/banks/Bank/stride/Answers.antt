@@ -1,3 +1,4 @@
+-- `stride`: sixteen lanes for each group of the bank's voices (`size_of`), of which there are never more than 64.
 use mathlib.Core.Path.{◌≡◌, ap, ◌∙◌}
 use Prim.Native.Nat.{ℕ, ◌*◌, min}
 use native.Mathlib.Omega.{arith}

@@ -1,3 +1,4 @@
+-- `trigger`: what `with` ensures of one voice is the bank's answer (`of_one`).
 use mathlib.Core.Path.{refl}
 use Rattle.memory.specs.Memory.{timing_at}
 use Rattle.bank.specs.declared.changes.Change.TheVariants.{Trigger}

@@ -1,3 +1,4 @@
+-- `check_voice`: its test is the definition's, true at the first return and false at the second.
 use borrow.Author.Tests.{lt-ltb, le-ltb}
 use Rattle.bank.proofs.known.Known.check_voice.Goals as goal
 

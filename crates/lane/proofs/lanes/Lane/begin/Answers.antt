@@ -1,3 +1,4 @@
+-- `begin`: what `start_segment` ensures of the plan, whose fields are the definition's.
 use Rattle.lane.specs.Planning.{begin}
 use Rattle.lane.proofs.lanes.Lane.begin.Goals as goal
 

@@ -1,3 +1,4 @@
+-- `new`: each field is the definition's, by what `unit` and `constant` ensure.
 use lib.Ieee.{of_bits}
 use Rattle.lane.specs.Planning.{new}
 use Rattle.lane.proofs.lanes.Lane.new.Goals as goal

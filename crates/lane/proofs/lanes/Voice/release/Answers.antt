@@ -1,3 +1,4 @@
+-- `release`: a voice that was released is returned as it is; any other enters Release at its level.
 use Rattle.lane.specs.Voices.{release}
 use Rattle.lane.proofs.lanes.Voice.release.Goals as goal
 
