@@ -21,6 +21,7 @@ impl Call {
         self.bytes[0]
     }
 
+    // That they lie within the call is asked by each that reads some, with its own size.
     fn bytes_at<const N: usize>(&self, at: usize) -> [u8; N]
         requires { at + N ≤ 88 }
     {

@@ -1,4 +1,5 @@
-// Sixteen lanes: taken out of the array and put back, their levels, one row on, and whether they stay.
+// Sixteen lanes: taken out of the array and put back, their levels, one row on, and whether they stay. A part of
+// an array is told by its first place, as the laws have it: its length is its type's.
 pub(crate) mod drawing;
 pub(crate) mod places;
 pub(crate) mod spare;
