@@ -82,12 +82,13 @@ fn lists() {
 fn in_c(of: &str) -> Vec<String> {
     let number = |of| match of {
         "u8" => "uint8_t",
-        "u32" | "Codes" => "uint32_t",
-        "u64" | "Counts" => "uint64_t",
+        "u32" => "uint32_t",
+        "u64" => "uint64_t",
         "i64" => "int64_t",
         "usize" => "size_t",
-        "f32" | "Floats" => "float",
-        "f64" | "Bends" => "double",
+        "f32" => "float",
+        "f64" => "double",
+        "Bank" => "worfelli_bank",
         other => panic!("no C type for {other}"),
     };
     let Some(lent) = of.strip_prefix('&') else {
