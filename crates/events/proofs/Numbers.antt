@@ -1,15 +1,24 @@
--- A number is the same in bytes that are cut out of a list.
-use Rattle.std.proofs.Common.{◌≡◌, ℕ, zero, suc, ◌+◌, ◌≤◌, List, take, drop, get_or, slice_index, refl, ap, ◌∙◌, arith}
-use Rattle.std.proofs.lemmas.List.{get_or-take, get_or-drop}
+-- Numbers of two, four and eight bytes, as std adds them up.
+use mathlib.Core.Path.{◌≡◌}
+use mathlib.Core.List.{List}
+use Prim.Native.Nat.{ℕ, ◌+◌, ◌*◌}
+use native.Mathlib.Numerals.{add-one, add-two, add-three, add-four, add_five, add_six, add_seven}
+use native.Mathlib.Omega.{arith}
 use Rattle.numbers.specs.Bytes.{number}
+use Rattle.events.specs.Format.{byte}
 
-number_from : (n m : ℕ) (l : List ℕ) (i j k : ℕ) → i + j ≡ k → j + n ≤ m → number n (take m (drop i l)) j ≡ number n l k
-unfolding number
-number_from zero m l i j k at enough = refl
-number_from (suc n) m l i j k at enough =
-    let low : slice_index (take m (drop i l)) j ≡ slice_index l k = get_or-take m (drop i l) j 0 (omega (arith, enough)) ∙ get_or-drop i l j 0 ∙ ap (λ p. get_or l p 0) at in
-    let high : number n (take m (drop i l)) (suc j) ≡ number n l (suc k) = number_from n m l i (suc j) (suc k) (omega (arith, at)) (omega (arith, enough)) in
-    omega (arith, low, high)
+module _ (l : List ℕ) (i : ℕ) where
+  pub two_bytes : byte l (i + 1) + byte l (i + 2) * 256 ≡ number 2 l (i + 1)
+  unfolding number
+  two_bytes = simp (add-one, add-two) (omega arith)
 
-pub number_cut : (n : ℕ) (l : List ℕ) (i : ℕ) → number n (take n (drop i l)) 0 ≡ number n l i
-number_cut n l i = number_from n n l i 0 i (omega arith) (omega arith)
+  pub four_bytes : byte l i + byte l (i + 1) * 256 + byte l (i + 2) * 65536 + byte l (i + 3) * 16777216 ≡ number 4 l i
+  unfolding number
+  four_bytes = simp (add-one, add-two, add-three) (omega arith)
+
+  pub eight_bytes
+      : byte l i + byte l (i + 1) * 256 + byte l (i + 2) * 65536 + byte l (i + 3) * 16777216
+      + byte l (i + 4) * 4294967296 + byte l (i + 5) * 1099511627776 + byte l (i + 6) * 281474976710656 + byte l (i + 7) * 72057594037927936
+      ≡ number 8 l i
+  unfolding number
+  eight_bytes = simp (add-one, add-two, add-three, add-four, add_five, add_six, add_seven) (omega arith)

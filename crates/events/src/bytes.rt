@@ -4,36 +4,29 @@ ghost use Rattle.std.specs.Prelude.{◌≡◌, ◌+◌, ◌≤◌, length};
 ghost use Rattle.numbers.specs.Bytes as Bytes;
 ghost use Rattle.events.specs.Format as Format;
 
-// The bytes at a place.
-fn bytes_at<const N: usize>(list: &[u8], at: usize) -> [u8; N]
-    requires { at + N ≤ length list.now }
-    ensures { Bytes.number N result 0 ≡ Bytes.number N list.now at }
-{
-    *list[at..].first_chunk().unwrap()
-}
-
-#[tactic(auto, unfolding(numbers::specs::Bytes::number))]
-pub(crate) fn u16_at(list: &[u8], at: usize) -> u16
-    requires { at + 2 ≤ length list.now }
-    ensures { result ≡ Bytes.number 2 list.now at }
-{
-    u16::from_le_bytes(bytes_at(list, at))
-}
-
-#[tactic(auto, unfolding(numbers::specs::Bytes::number))]
+#[tactic(auto, using(crate::proofs::Numbers::four_bytes))]
 pub(crate) fn u32_at(list: &[u8], at: usize) -> u32
     requires { at + 4 ≤ length list.now }
     ensures { result ≡ Bytes.number 4 list.now at }
 {
-    u32::from_le_bytes(bytes_at(list, at))
+    u32::from_le_bytes([list[at], list[at + 1], list[at + 2], list[at + 3]])
 }
 
-#[tactic(auto, unfolding(numbers::specs::Bytes::number))]
+#[tactic(auto, using(crate::proofs::Numbers::eight_bytes))]
 fn u64_at(list: &[u8], at: usize) -> u64
     requires { at + 8 ≤ length list.now }
     ensures { result ≡ Bytes.number 8 list.now at }
 {
-    u64::from_le_bytes(bytes_at(list, at))
+    u64::from_le_bytes([
+        list[at],
+        list[at + 1],
+        list[at + 2],
+        list[at + 3],
+        list[at + 4],
+        list[at + 5],
+        list[at + 6],
+        list[at + 7],
+    ])
 }
 
 pub(crate) fn f32_at(list: &[u8], at: usize) -> f32

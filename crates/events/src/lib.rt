@@ -49,14 +49,14 @@ pub struct Record {
 // The record at a place of a list. Refused, in this order: its head or its body doesn't fit in the
 // bytes; an unknown tag; a wrong length; a first record that is no open, or an open that isn't
 // first; a code byte without a name.
-#[tactic(auto, unfolding(crate::specs::Format::read))]
+#[tactic(auto, using(crate::proofs::Numbers::two_bytes), unfolding(crate::specs::Format::read))]
 pub fn read(list: &[u8], at: usize) -> Result<Record, Refusal>
     ensures { Format.reading result ≡ Format.read list.now at }
 {
     if list.len() < 3 || list.len() - 3 < at {
         return Err(Refusal::CutShort);
     }
-    let len = bytes::u16_at(list, at + 1) as usize;
+    let len = u16::from_le_bytes([list[at + 1], list[at + 2]]) as usize;
     if list.len() - 3 - at < len {
         return Err(Refusal::CutShort);
     }
