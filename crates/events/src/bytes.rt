@@ -12,6 +12,7 @@ pub(crate) fn u32_at(list: &[u8], at: usize) -> u32
     u32::from_le_bytes([list[at], list[at + 1], list[at + 2], list[at + 3]])
 }
 
+// Beside `u32_at`: one over the count of bytes, by `first_chunk`, makes the check of settings take half as long again.
 #[tactic(auto, using(crate::proofs::Numbers::eight_bytes))]
 fn u64_at(list: &[u8], at: usize) -> u64
     requires { at + 8 ≤ length list.now }
