@@ -1,5 +1,6 @@
 //! Derives the Rust's envelope: its files with the tables' changes, and a file
-//! of `mod` lines that brings them in. Nothing of its text is kept here.
+//! with the line that brings them in. Of its text the tables keep what they
+//! substitute, and nothing else is kept.
 
 use std::fs;
 use std::path::Path;
