@@ -31,7 +31,7 @@ pub fn powi(r: f64, len: u32) -> f64
     ensures { result ≡ StandIns.powi r len }
 {
     let mut p = r;
-    let bits = len.checked_ilog2().unwrap_or(0);
+    let bits = 31u32.saturating_sub(len.leading_zeros());
     for bit in (0..bits).rev() {
         p = p * p;
         if (len >> bit) % 2 == 1 {

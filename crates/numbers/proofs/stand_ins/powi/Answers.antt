@@ -7,9 +7,7 @@ use Rattle.numbers.proofs.stand_ins.powi.Goals as goal
 
 pub loop-bit-init : goal.loop-bit-init
 unfolding StandIns.powi
-loop-bit-init c =
-    let e = c.checked_ilog2.ensures in
-    rw (c.unwrap_or-bits.ensures, highest c.checked_ilog2.result c.args.len e.none e.power_le e.next_power_gt) refl
+loop-bit-init c = rw (c.saturating_sub-bits.ensures, highest c.args.len (omega arith)) refl
 
 pub loop-bit-preserved-then-len-bit-eq1 : goal.loop-bit-preserved-then-len-bit-eq1
 loop-bit-preserved-then-len-bit-eq1 c =
