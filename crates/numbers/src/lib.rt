@@ -1,5 +1,5 @@
-// The number helpers of document 01: what the Rust takes from f32, f64 and libm, each one equal in
-// every bit to a definition of specs/, on every input, NaN and infinities included.
+// The number helpers of document 01: what the Rust takes from f32, f64 and libm, each one equal to a
+// definition of specs/ on every input, NaN and infinities included: in every bit where it is a number.
 #![tactic(auto)]
 
 mod bits;

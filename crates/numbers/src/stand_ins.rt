@@ -26,7 +26,8 @@ pub fn exp(z: f64) -> f64
     exp_m1(z) + 1.0
 }
 
-// r to the power len, from the bit below the highest one bit of len downwards.
+// r to the power len, from the bit below the highest one bit of len downwards, which the leading zeros tell. A len
+// of 0 has 32 of them.
 pub fn powi(r: f64, len: u32) -> f64
     ensures { result ≡ StandIns.powi r len }
 {

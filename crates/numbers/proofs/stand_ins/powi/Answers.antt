@@ -7,7 +7,7 @@ use Rattle.numbers.proofs.stand_ins.powi.Goals as goal
 
 pub loop-bit-init : goal.loop-bit-init
 unfolding StandIns.powi
-loop-bit-init c = rw (c.saturating_sub-bits.ensures, highest c.args.len (omega arith)) refl
+loop-bit-init c = rw (c.saturating_sub-bits.ensures, highest c.args.len c.ranges.len.fits) refl
 
 pub loop-bit-preserved-then-len-bit-eq1 : goal.loop-bit-preserved-then-len-bit-eq1
 loop-bit-preserved-then-len-bit-eq1 c =
