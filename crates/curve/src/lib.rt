@@ -6,4 +6,4 @@ mod curves;
 mod segments;
 
 pub use curves::{MAX_BEND, MAX_SEGMENT, bend, progress, segment, time_at};
-pub use segments::{Segment, UNTIMED, run_length};
+pub use segments::{Segment, UNTIMED, level_from, next_u, run_length};

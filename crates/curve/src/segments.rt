@@ -1,4 +1,5 @@
-// What draws the next samples: a level is u × scale + base, then u becomes u × r + d.
+// What draws the next samples: a level is u × scale + base, then u becomes u × r + d. Whatever draws calls
+// `level_from` and `next_u` for them; a product and a sum are each rounded, never fused.
 ghost use Rattle.std.specs.Prelude.{◌≡◌};
 ghost use Rattle.curve.specs.Segments as Segments;
 
@@ -35,8 +36,22 @@ impl Segment {
     pub fn level(self) -> f32
         ensures { result ≡ Segments.level self }
     {
-        self.u * self.scale + self.base
+        level_from(self.u, self.scale, self.base)
     }
+}
+
+// A level, from a segment's u, scale and base.
+pub fn level_from(u: f32, scale: f32, base: f32) -> f32
+    ensures { result ≡ Segments.level_from u scale base }
+{
+    u * scale + base
+}
+
+// u one sample on, from a segment's u, r and d.
+pub fn next_u(u: f32, r: f32, d: f32) -> f32
+    ensures { result ≡ Segments.next_u u r d }
+{
+    u * r + d
 }
 
 // How many of the next `most` samples a segment with `left` left draws.

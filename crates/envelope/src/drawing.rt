@@ -18,8 +18,8 @@ fn draw(out: &mut [f32], seg: Segment) -> f32
 {
     let mut u = seg.u;
     for level in out {
-        *level = u * seg.scale + seg.base;
-        u = u * seg.r + seg.d;
+        *level = curve::level_from(u, seg.scale, seg.base);
+        u = curve::next_u(u, seg.r, seg.d);
     }
     u
 }

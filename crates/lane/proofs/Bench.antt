@@ -9,7 +9,7 @@ use Rattle.numbers.specs.Constants.{zero, half}
 use Rattle.numbers.specs.Limits.{unit, clamp, max}
 use Rattle.numbers.specs.Conversions.{narrow, round_u64}
 use Rattle.timing.specs.Samples.{seconds, product, samples}
-use Rattle.curve.specs.Segments.{untimed, level, next_u}
+use Rattle.curve.specs.Segments.{untimed, level}
 use Rattle.curve.specs.Curves.{bend, progress, time_at, at, is_straight, straight, bent, segment}
 use Rattle.settings.specs.declared.stages.Stage.TheVariants.{Attack, Decay, Sustain}
 use Rattle.lane.specs.declared.lanes.Voice.{Voice}
@@ -29,7 +29,7 @@ pub table :
     (l.stage ≡ Attack) × (l.seg_len ≡ 16384) × ((advance clock l).lane.stage ≡ Attack) × ((advance clock l).lane.seg_len ≡ 1)
     × ((join_attack p three_eighths (spec p Attack clock three_eighths)).pos ≡ 2)
     × (decaying.lane.stage ≡ Decay) × (shorter.lane.stage ≡ Sustain) × (longer.lane.stage ≡ Decay) × (rest longer ≡ 2)
-unfolding new trigger leaves_alone note_level enter find find_from settle begin hold start_segment spec join join_attack advance moved samples product seconds max clamp unit is_nan bend time_at lt le eq add sub mul div round round_u64 of_bits of_int frame stepped next_u set_params with_params replan elapsed same rest segment straight bent at progress level is_straight narrow neg
+unfolding new trigger leaves_alone note_level enter find find_from settle begin hold start_segment spec join join_attack advance moved samples product seconds max clamp unit is_nan bend time_at lt le eq add sub mul div round round_u64 of_bits of_int frame stepped set_params with_params replan elapsed same rest segment straight bent at progress level is_straight narrow neg
 table = (refl, refl, refl, refl, refl, refl, refl, refl, refl)
 
 -- The same voices played on: what is left of the long attack's segments, and what follows them; an attack joined at 0.375 beside the whole one; and
@@ -47,7 +47,7 @@ pub played :
     × ((frames 2 clock joined).lane.stage ≡ Sustain)
     × (decaying.seg.left ≡ 1)
     × (((frame clock longer).lane.stage ≡ Decay) × ((frames 2 clock longer).lane.stage ≡ Sustain))
-unfolding new trigger leaves_alone note_level enter find find_from settle begin hold start_segment spec join join_attack advance moved samples product seconds max clamp unit is_nan bend time_at lt le eq add sub mul div round round_u64 of_bits of_int frame stepped next_u set_params with_params replan elapsed same rest segment straight bent at progress level is_straight narrow neg
+unfolding new trigger leaves_alone note_level enter find find_from settle begin hold start_segment spec join join_attack advance moved samples product seconds max clamp unit is_nan bend time_at lt le eq add sub mul div round round_u64 of_bits of_int frame stepped set_params with_params replan elapsed same rest segment straight bent at progress level is_straight narrow neg
 played = (refl, (refl, refl, refl), refl, (refl, refl, refl), (refl, refl, refl), refl, refl, (refl, refl))
 
 segment_ends : (n : ℕ) (v : Voice) → v.seg.left ≡ n → 1 ≤ n → n < untimed → frames n clock v ≡ advance clock v.lane

@@ -6,7 +6,7 @@ use native.Mathlib.Nat.{zero-add, suc-add, sub-zero}
 use borrow.Author.Tests.{eq-eqb, ne_eqb}
 use Rattle.timing.specs.declared.Timing.{Timing}
 use Rattle.curve.specs.declared.segments.Segment.{Segment}
-use Rattle.curve.specs.Segments.{next_u, u_after, untimed}
+use Rattle.curve.specs.Segments.{u_after, untimed}
 use Rattle.lane.specs.declared.lanes.Voice.{Voice}
 use Rattle.lane.specs.Planning.{advance}
 use Rattle.lane.specs.Voices.{stepped, frame, frames}
@@ -31,7 +31,7 @@ module _ (t : Timing) where
 
   -- An untimed segment only steps.
   pub frames-untimed : (n : ℕ) (v : Voice) → v.seg.left ≡ untimed → frames n t v ≡ after n v.seg.left v
-  unfolding frame stepped next_u
+  unfolding frame stepped
   frames-untimed zero v e = refl
   frames-untimed (suc n) v e =
       let f : frame t v ≡ after 1 v.seg.left v = rw (eq-eqb v.seg.left untimed e) in
@@ -39,7 +39,7 @@ module _ (t : Timing) where
 
   -- Fewer frames than are left.
   pub frames-inside : (n : ℕ) (v : Voice) → n < v.seg.left → v.seg.left < untimed → frames n t v ≡ after n (v.seg.left - n) v
-  unfolding frame stepped next_u
+  unfolding frame stepped
   frames-inside zero v h b = rw sub-zero
   frames-inside (suc n) v h b =
       let w = after 1 (v.seg.left - 1) v in

@@ -92,7 +92,7 @@ set_params t p v = replan t (with_params p v)
 
 -- A segment one sample on, with `left` left.
 unfoldable pub stepped : Segment → ℕ → Segment
-stepped g left = record { u = next_u g; r = g.r; d = g.d; scale = g.scale; base = g.base; left = left }
+stepped g left = record { u = next_u g.u g.r g.d; r = g.r; d = g.d; scale = g.scale; base = g.base; left = left }
 
 -- One frame passes: u steps; a timed left falls by 1; at 0 the stage's next segment follows, or the next stage that takes time or holds.
 unfoldable pub frame : Timing → Voice → Voice

@@ -144,7 +144,7 @@ impl Voice {
     fn stepped(self, left: u32) -> Voice
         ensures { result ≡ record { lane = self.lane; seg = Voices.stepped self.seg left } }
     {
-        let u = self.seg.u * self.seg.r + self.seg.d;
+        let u = curve::next_u(self.seg.u, self.seg.r, self.seg.d);
         let seg = Segment {
             u,
             left,

@@ -13,7 +13,7 @@ use lib.ListN.{get_or}
 use Rattle.numbers.specs.Constants as Constants
 use Rattle.numbers.specs.Constants.{one}
 use Rattle.numbers.proofs.Laws.Zero.{round_zero}
-use Rattle.curve.specs.Segments.{u_after}
+use Rattle.curve.specs.Segments.{level_from, next_u, u_after}
 use Rattle.curve.proofs.Steps.{u_next}
 use Rattle.filled.specs.Filled.{Filled}
 use Rattle.memory.specs.Memory.{u_at, r_at, d_at, scale_at, base_at}
@@ -65,7 +65,7 @@ module _ (g : ℕ) (f : List Float) where
 
 -- ---- lanes that stay
 
-stays : (k : ℕ) (u r d : Float) → add binary32 (mul binary32 u r) d ≡ u → u_after k u r d ≡ u
+stays : (k : ℕ) (u r d : Float) → next_u u r d ≡ u → u_after k u r d ≡ u
 stays zero u r d e = refl
 stays (suc k) u r d e = ap (λ (x : Float). u_after k x r d) e ∙ stays k u r d e
 
@@ -76,7 +76,7 @@ module _ (g : ℕ) (f : List Float) (S : Still g f) where
   -- Every row is the first, and the array is as it was.
   pub still-level : (k i : ℕ) → i < 16 → drawn_at 0 f (g + i) ≡ drawn_at k f (g + i)
   still-level k i h =
-      ap (λ (u : Float). add binary32 (mul binary32 u (scale_at f (g + i))) (base_at f (g + i))) (sym (still-moved k i h))
+      ap (λ (u : Float). level_from u (scale_at f (g + i)) (base_at f (g + i))) (sym (still-moved k i h))
 
   pub still_filled : (k : ℕ) → Filled nan (moved_at k f) g (g + 16) f f
   still_filled k =

@@ -4,11 +4,11 @@ use mathlib.Core.Logic.{◌⊎◌, inl, inr}
 use mathlib.Core.List.{List}
 use Prim.Native.Nat.{ℕ, zero, suc, ◌+◌, ◌*◌, ◌<◌, ◌≤◌}
 use native.Mathlib.Omega.{arith}
-use lib.Ieee.{Float, nan, binary32, add, mul, round}
+use lib.Ieee.{Float, nan, add, mul, round}
 use lib.ListN.{get_or}
 use Rattle.numbers.specs.Constants as Constants
 use Rattle.numbers.specs.Constants.{one}
-use Rattle.curve.specs.Segments.{u_after}
+use Rattle.curve.specs.Segments.{level_from, u_after}
 use Rattle.filled.specs.Filled.{Filled}
 use Rattle.filled.proofs.Filling.{split}
 use Rattle.memory.specs.Memory.{lanes, columns_at}
@@ -42,7 +42,7 @@ unfolding add mul round
 stays-zero zero = refl
 stays-zero (suc k) = stays-zero k
 
-level-zero : add binary32 (mul binary32 Constants.zero Constants.zero) Constants.zero ≡ Constants.zero
+level-zero : level_from Constants.zero Constants.zero Constants.zero ≡ Constants.zero
 unfolding add mul round
 level-zero = refl
 

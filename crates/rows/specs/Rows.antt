@@ -1,11 +1,11 @@
 -- Rows of levels, drawn from an array of floats, and as they are stored: a level is one float of an output, or four of its bytes.
 use Rattle.std.specs.Prelude.{◌≡◌, cond, List, [], ◌∷◌, ℕ, ◌+◌, ◌*◌, ◌/◌, ◌%◌, ◌≤◌, ◌<◌, ltb, length, get_or, Float}
 use Rattle.std.specs.Float.{nan, binary32}
-use Rattle.std.specs.Float.Ieee.{add, mul, to_bits}
+use Rattle.std.specs.Float.Ieee.{to_bits}
 use Rattle.numbers.specs.Bytes.{lowest_first}
 use Rattle.numbers.specs.Constants as Constants
 use Rattle.numbers.specs.Constants.{one}
-use Rattle.curve.specs.Segments.{u_after}
+use Rattle.curve.specs.Segments.{level_from, next_u, u_after}
 use Rattle.filled.specs.Filled.{Filled}
 use Rattle.memory.specs.Memory.{lanes, floats_length, u_at, r_at, d_at, scale_at, base_at, columns_at}
 
@@ -20,7 +20,7 @@ abbrev pub moved_at : ℕ → List Float → ℕ → Float
 moved_at k f i = u_after k (u_at f i) (r_at f i) (d_at f i)
 
 abbrev pub drawn_at : ℕ → List Float → ℕ → Float
-drawn_at k f i = add binary32 (mul binary32 (moved_at k f i) (scale_at f i)) (base_at f i)
+drawn_at k f i = level_from (moved_at k f i) (scale_at f i) (base_at f i)
 
 -- Sixteen lanes from lane g on whose u a row leaves as it is.
 abbrev pub Still : ℕ → List Float → Type 0
@@ -48,10 +48,10 @@ pub record Loaded (a : ℕ) (f x : List Float) : Type 0 where
 
 -- Lane i of them: its level, and its u one row on.
 abbrev pub levels_at : List Float → List Float → List Float → ℕ → Float
-levels_at u s b i = add binary32 (mul binary32 (get_or u i nan) (get_or s i nan)) (get_or b i nan)
+levels_at u s b i = level_from (get_or u i nan) (get_or s i nan) (get_or b i nan)
 
 abbrev pub steps_at : List Float → List Float → List Float → ℕ → Float
-steps_at u r d i = add binary32 (mul binary32 (get_or u i nan) (get_or r i nan)) (get_or d i nan)
+steps_at u r d i = next_u (get_or u i nan) (get_or r i nan) (get_or d i nan)
 
 -- y is their levels.
 abbrev pub Levels : List Float → List Float → List Float → List Float → Type 0

@@ -66,7 +66,7 @@ impl Lanes {
     {
         let mut y = [0.0f32; 16];
         for i in 0..16 {
-            y[i] = self.u[i] * self.scale[i] + self.base[i];
+            y[i] = curve::level_from(self.u[i], self.scale[i], self.base[i]);
         }
         y
     }
@@ -83,8 +83,8 @@ impl Lanes {
         let mut y = [0.0f32; 16];
         for i in 0..16 {
             let u = self.u[i];
-            y[i] = u * self.scale[i] + self.base[i];
-            self.u[i] = u * self.r[i] + self.d[i];
+            y[i] = curve::level_from(u, self.scale[i], self.base[i]);
+            self.u[i] = curve::next_u(u, self.r[i], self.d[i]);
         }
         y
     }

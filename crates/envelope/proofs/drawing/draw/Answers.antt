@@ -10,6 +10,6 @@ loop-level-preserved c =
     let lt : l.level-index < length l.level-items = omega arith in (
       below_more _ _
           (λ k h. let ne : k ≢ l.level-index = omega arith in rw get_or-set_other (l.invariant.0 k h))
-          (rw (get_or-set_same, l.invariant.1)),
-      rw l.invariant.1 (u_next l.level-index g.u g.r g.d),
+          (rw (get_or-set_same, c.level_from.ensures, l.invariant.1)),
+      rw (c.next_u-u.ensures, l.invariant.1) (u_next l.level-index g.u g.r g.d),
     )

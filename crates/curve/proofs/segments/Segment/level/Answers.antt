@@ -1,8 +1,7 @@
--- `level`: the definition's operations in their order.
-use mathlib.Core.Path.{refl}
+-- `level`: the formula of a level at the segment's own numbers.
 use Rattle.curve.specs.Segments.{level}
 use Rattle.curve.proofs.segments.Segment.level.Goals as goal
 
 pub returns : goal.returns
 unfolding level
-returns c = refl
+returns c = c.level_from.ensures
