@@ -10,22 +10,37 @@ pub mod single;
 pub mod through_c;
 pub mod through_rust;
 
+use std::hint::black_box;
+
 use crate::banks::refusals::stride;
 use asked::{Kind, Opening, Query, Sound};
 
 /// What is measured, which holds voices. What is asked is never refused.
-pub trait Measured {
+pub trait Measured: Sized {
     /// The levels of a frame of so many voices.
     #[must_use]
     fn levels(voices: usize) -> usize {
         stride(voices as u64) as usize
     }
 
+    /// A fresh one.
+    fn opened(opening: Opening) -> Self;
+
     /// A fresh one, and its notes.
-    fn triggered(opening: Opening) -> Self;
+    #[must_use]
+    fn triggered(opening: Opening) -> Self {
+        let mut measured = Self::opened(opening);
+        measured.calls(opening.sound, Kind::Trigger, opening.notes);
+        measured
+    }
 
     /// So many openings in its place.
-    fn opens(&mut self, opening: Opening, times: u32);
+    #[inline(never)]
+    fn opens(&mut self, opening: Opening, times: u32) {
+        for _ in 0..times {
+            *black_box(&mut *self) = Self::opened(black_box(opening));
+        }
+    }
 
     /// So many calls of a kind on the voices in turn.
     fn calls(&mut self, sound: Sound, kind: Kind, calls: u32);

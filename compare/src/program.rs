@@ -1,6 +1,7 @@
 //! The frame of a program that compares: its arguments, the seed that it
 //! follows, what was reached, the counts, and the exit status.
 
+use std::fs;
 use std::path::Path;
 use std::process::ExitCode;
 
@@ -19,8 +20,11 @@ pub trait Compared {
     fn tallies(self) -> Vec<Tally>;
 }
 
-/// Writes to a folder.
-type Write = fn(&Path) -> Result<(), String>;
+/// The files on which a program of the Rattle is run where there is no Rust.
+pub const FILES: [&str; 2] = ["stdin", "stdout"];
+
+/// Makes their bytes.
+type Stored = fn() -> Result<[Vec<u8>; 2], String>;
 
 /// What one program has of its own beside the comparing.
 pub struct Program {
@@ -28,8 +32,8 @@ pub struct Program {
     pub help: &'static str,
     /// The random inputs unless told otherwise.
     pub cases: u64,
-    /// What `--write` does with a folder, where there is something to write.
-    pub write: Option<Write>,
+    /// What `--write` writes to a folder, where there is something to write.
+    pub stored: Option<Stored>,
 }
 
 impl Program {
@@ -41,9 +45,9 @@ impl Program {
         compare: impl FnOnce(Arguments) -> Result<C, String>,
     ) -> ExitCode {
         let given: Vec<String> = std::env::args().skip(1).collect();
-        let done = match (given.as_slice(), self.write) {
-            ([write, folder], Some(written)) if write == "--write" => {
-                written(Path::new(folder)).map(|()| ExitCode::SUCCESS)
+        let done = match (given.as_slice(), self.stored) {
+            ([write, folder], Some(stored)) if write == "--write" => {
+                write_to(Path::new(folder), stored).map(|()| ExitCode::SUCCESS)
             }
             _ => match arguments::read(&given, self.help, self.defaults()) {
                 Ok(arguments) => {
@@ -65,6 +69,14 @@ impl Program {
             cases: self.cases,
         }
     }
+}
+
+fn write_to(folder: &Path, stored: Stored) -> Result<(), String> {
+    for (name, bytes) in FILES.into_iter().zip(stored()?) {
+        let file = folder.join(name);
+        fs::write(&file, bytes).map_err(|error| format!("{}: {error}", file.display()))?;
+    }
+    Ok(())
 }
 
 fn finish(compared: impl Compared) -> ExitCode {

@@ -41,8 +41,16 @@ impl<L> Iterator for Lists<L> {
 }
 
 #[cfg(test)]
-mod tests {
+pub(crate) mod tests {
     use super::*;
+
+    /// Sees that lists, as these bytes, follow from their seed and from nothing
+    /// else.
+    pub(crate) fn follow_their_seed<L>(lists: fn(u64) -> Lists<L>, bytes: fn(L) -> Vec<u8>) {
+        let made = |seed| -> Vec<u8> { lists(seed).take(20).flat_map(bytes).collect() };
+        assert_eq!(made(1), made(1));
+        assert_ne!(made(1), made(2));
+    }
 
     fn made(seed: u64, subject: &str, many: u64) -> Vec<String> {
         let make = |random: &mut Random, name| format!("{name}: {}", random.bits());

@@ -242,15 +242,11 @@ fn frames(random: &mut Random, style: Style, envelope: Option<&Envelope>, room: 
 mod tests {
     use super::*;
     use crate::replay::Asked;
+    use crate::series::tests::follow_their_seed;
 
     #[test]
     fn a_seed_makes_the_same_lists() {
-        let made = |seed| -> Vec<u8> {
-            let lists = lists(seed).take(20);
-            lists.flat_map(|list| list.call_bytes()).collect()
-        };
-        assert_eq!(made(1), made(1));
-        assert_ne!(made(1), made(2));
+        follow_their_seed(lists, |list| list.call_bytes());
     }
 
     #[test]

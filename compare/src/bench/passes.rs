@@ -113,7 +113,8 @@ pub fn timed_beside<R: Measured>(opening: Opening, call: Call) -> Three {
 /// among others.
 fn once<M: Measured>(opening: Opening, call: Call) -> (f64, Vec<u64>) {
     let (opening, times) = (black_box(opening), call.times(opening.voices));
-    let mut out = vec![0.0; call.frames() * M::levels(opening.voices)];
+    // Written before, so that its memory is there when the time begins.
+    let mut out = vec![2.0; call.frames() * M::levels(opening.voices)];
     let (mut sum, mut fresh) = (0, None);
     let mut measured = M::triggered(opening);
     let start = Instant::now();

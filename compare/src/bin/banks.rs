@@ -25,7 +25,7 @@ fn main() -> ExitCode {
     let program = Program {
         help: HELP,
         cases: 16_000,
-        write: None,
+        stored: None,
     };
     program.run(compare)
 }

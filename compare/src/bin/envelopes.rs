@@ -25,7 +25,7 @@ fn main() -> ExitCode {
     let program = Program {
         help: HELP,
         cases: 24_000,
-        write: Some(stored::write),
+        stored: Some(stored::files),
     };
     program.run(compare)
 }

@@ -66,7 +66,7 @@ fn main() -> ExitCode {
     let program = Program {
         help: HELP,
         cases: 2_000_000,
-        write: None,
+        stored: None,
     };
     program.run(|arguments| Ok(compare(arguments)))
 }

@@ -26,7 +26,7 @@ fn main() -> ExitCode {
     let program = Program {
         help: HELP,
         cases: 400_000,
-        write: Some(stored::write),
+        stored: Some(stored::files),
     };
     program.run(compare)
 }

@@ -7,17 +7,9 @@ use crate::reference::{lead, tail};
 use crate::rust::envelope::{EnvelopeBank, Trigger};
 
 impl Measured for EnvelopeBank {
-    fn triggered(opening: Opening) -> Self {
-        let mut bank = opened(opening);
-        bank.calls(opening.sound, Kind::Trigger, opening.notes);
-        bank
-    }
-
-    #[inline(never)]
-    fn opens(&mut self, opening: Opening, times: u32) {
-        for _ in 0..times {
-            *self = opened(opening);
-        }
+    fn opened(opening: Opening) -> Self {
+        let Opening { sound, voices, .. } = opening;
+        Self::new(voices, sound.settings(), sound.timing())
     }
 
     #[inline(never)]
@@ -40,11 +32,6 @@ impl Measured for EnvelopeBank {
             sum.wrapping_add(read(self, query, voice))
         })
     }
-}
-
-fn opened(opening: Opening) -> EnvelopeBank {
-    let Opening { sound, voices, .. } = opening;
-    EnvelopeBank::new(voices, sound.settings(), sound.timing())
 }
 
 fn call(bank: &mut EnvelopeBank, sound: Sound, kind: Kind, voice: usize) {

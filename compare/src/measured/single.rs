@@ -14,17 +14,8 @@ impl Measured for Envelope {
         1
     }
 
-    fn triggered(opening: Opening) -> Self {
-        let mut envelope = opened(opening);
-        envelope.calls(opening.sound, Kind::Trigger, opening.notes);
-        envelope
-    }
-
-    #[inline(never)]
-    fn opens(&mut self, opening: Opening, times: u32) {
-        for _ in 0..times {
-            *black_box(&mut *self) = opened(black_box(opening));
-        }
+    fn opened(Opening { sound, .. }: Opening) -> Self {
+        Self::new(sound.settings(), sound.timing())
     }
 
     #[inline(never)]
@@ -49,10 +40,6 @@ impl Measured for Envelope {
             sum.wrapping_add(read(black_box(self), query))
         })
     }
-}
-
-fn opened(Opening { sound, .. }: Opening) -> Envelope {
-    Envelope::new(sound.settings(), sound.timing())
 }
 
 /// All voices are the one, which has no other to join.

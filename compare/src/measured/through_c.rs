@@ -35,10 +35,9 @@ unsafe extern "C" {
 }
 
 impl Measured for LiveBank {
-    fn triggered(opening: Opening) -> Self {
+    fn opened(opening: Opening) -> Self {
         let mut bank = Self::zeros();
         bank.opens(opening, 1);
-        bank.calls(opening.sound, Kind::Trigger, opening.notes);
         bank
     }
 

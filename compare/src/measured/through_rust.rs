@@ -7,17 +7,10 @@ use crate::measured::asked::{Kind, Opening, Query, Sound};
 use crate::measured::{Measured, after, turns};
 
 impl Measured for EnvelopeBank {
-    fn triggered(opening: Opening) -> Self {
-        let mut bank = opened(opening).expect("an opening");
-        bank.calls(opening.sound, Kind::Trigger, opening.notes);
-        bank
-    }
-
-    #[inline(never)]
-    fn opens(&mut self, opening: Opening, times: u32) {
-        for _ in 0..times {
-            *self = opened(opening).expect("an opening");
-        }
+    fn opened(opening: Opening) -> Self {
+        let Opening { sound, voices, .. } = opening;
+        let (settings, timing) = (params(&sound.settings()), clock(sound.timing()));
+        Self::new(voices, settings, timing).expect("an opening")
     }
 
     #[inline(never)]
@@ -47,11 +40,6 @@ impl Measured for EnvelopeBank {
         let voices = turns(self.voices(), times);
         voices.fold(0, |sum: u64, voice| sum.wrapping_add(read(voice)))
     }
-}
-
-fn opened(opening: Opening) -> Result<EnvelopeBank, Refusal> {
-    let Opening { sound, voices, .. } = opening;
-    EnvelopeBank::new(voices, params(&sound.settings()), clock(sound.timing()))
 }
 
 /// What the loops over the crate make calls with.

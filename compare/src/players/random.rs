@@ -174,15 +174,11 @@ fn output(random: &mut Random, levels: usize, damaged: bool) -> usize {
 mod tests {
     use super::*;
     use crate::players::checks::check;
+    use crate::series::tests::follow_their_seed;
 
     #[test]
     fn a_seed_makes_the_same_lists() {
-        let made = |seed| -> Vec<u8> {
-            let lists = lists(seed).take(20);
-            lists.flat_map(|drawn| drawn.case.list).collect()
-        };
-        assert_eq!(made(1), made(1));
-        assert_ne!(made(1), made(2));
+        follow_their_seed(lists, |drawn| drawn.case.list);
     }
 
     #[test]
