@@ -12,7 +12,7 @@ typedef struct compare_sound {
     worfelli_timing other_timing;
 } compare_sound;
 
-/* The kinds of calls and of readings, by the numbers of compare/src/asked.rs. */
+/* The kinds of calls and of readings, by the numbers of compare/src/measured/asked.rs. */
 enum {
     TRIGGER,
     RELEASE,

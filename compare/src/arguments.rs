@@ -14,15 +14,14 @@ pub struct Arguments {
     pub cases: u64,
 }
 
-/// This program's arguments, or how to exit at once: after `--help`, which
+/// The arguments in `given`, or how to exit at once: after `--help`, which
 /// prints `help`, or after one line about what is wrong.
 ///
 /// # Errors
 ///
 /// There is nothing to run.
-pub fn read(help: &str, defaults: Arguments) -> Result<Arguments, ExitCode> {
-    let given: Vec<String> = std::env::args().skip(1).collect();
-    match parse(&given, defaults) {
+pub fn read(given: &[String], help: &str, defaults: Arguments) -> Result<Arguments, ExitCode> {
+    match parse(given, defaults) {
         Ok(Some(arguments)) => Ok(arguments),
         Ok(None) => {
             println!("{help}");

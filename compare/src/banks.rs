@@ -20,3 +20,16 @@ pub mod random;
 pub mod reference;
 pub mod refusals;
 pub mod words;
+
+use crate::arguments::Arguments;
+use lists::{List, with_cuts};
+
+/// The fixed lists and so many random ones, each once more with its blocks cut.
+///
+/// # Errors
+///
+/// A fixed list doesn't show what it is about.
+pub fn all(Arguments { seed, cases }: Arguments) -> Result<impl Iterator<Item = List>, String> {
+    let lists = random::lists(seed).after(fixed::lists()?, cases);
+    Ok(with_cuts(lists, seed))
+}

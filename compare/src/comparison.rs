@@ -5,6 +5,7 @@ use std::io::Read;
 use crate::calls::{FIELDS, REPLY, Reply, Settings};
 use crate::coverage::Coverage;
 use crate::lists::{List, Step};
+use crate::program::Compared;
 use crate::replay::{Compares, ending};
 use crate::report::{Inputs, Tally};
 
@@ -75,21 +76,6 @@ impl Default for Comparison {
 }
 
 impl Comparison {
-    #[must_use]
-    pub fn tallies(self) -> Vec<Tally> {
-        vec![
-            self.refusal,
-            self.settings,
-            self.stage,
-            self.idle,
-            self.level,
-            self.tail,
-            self.lead,
-            self.run_on,
-            self.levels,
-        ]
-    }
-
     fn reply(&mut self, place: Place, ours: &Reply) {
         let rust = &place.step.reply;
         self.refusal.check(place, ours.refusal, rust.refusal);
@@ -118,6 +104,26 @@ impl Comparison {
             let place = place.of(Part::Level(number));
             self.levels.check(place, f32::from_bits(bits), rust);
         }
+    }
+}
+
+impl Compared for Comparison {
+    fn print(&self) -> bool {
+        self.coverage.print()
+    }
+
+    fn tallies(self) -> Vec<Tally> {
+        vec![
+            self.refusal,
+            self.settings,
+            self.stage,
+            self.idle,
+            self.level,
+            self.tail,
+            self.lead,
+            self.run_on,
+            self.levels,
+        ]
     }
 }
 

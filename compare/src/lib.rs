@@ -13,11 +13,11 @@
 //!   of them.
 //! - [`reference`](mod@reference): the Rust's envelope, with what document 01 adds to it.
 //! - [`random`], [`floats`], [`times`] and [`settings`]: the inputs; [`fixed`]
-//!   and [`random_lists`]: lists of calls, with the Rust's answers in [`lists`].
-//! - [`asked`]: what the measurements ask of [`library`] and of the Rust, in
-//!   [`takes`] and [`singles`].
-//! - [`arguments`], [`coverage`] and [`report`]: how a comparison is asked for,
-//!   what it reached, and what it answers.
+//!   and [`random_lists`]: lists of calls, with the Rust's answers in [`lists`];
+//!   [`series`]: fixed lists and random ones, one after another.
+//! - [`measured`]: banks in loops, for the measurements.
+//! - [`program`]: the frame of a program that compares, with its [`arguments`]
+//!   and its [`report`]; [`coverage`]: what the envelope's lists reached.
 //!
 //! `cargo run --release --bin numbers` compares the number helpers, `--bin
 //! envelopes` the single envelope, `--bin banks` the bank, `--bin live` the bank
@@ -25,7 +25,6 @@
 //! measures all of them.
 
 pub mod arguments;
-pub mod asked;
 pub mod banks;
 pub mod calls;
 pub mod comparison;
@@ -35,18 +34,19 @@ pub mod floats;
 pub mod library;
 pub mod lists;
 pub mod live;
+pub mod measured;
 pub mod players;
+pub mod program;
 pub mod random;
 pub mod random_lists;
 pub mod reference;
 pub mod replay;
 pub mod report;
+pub mod series;
 pub mod settings;
 pub mod simd;
-pub mod singles;
 pub mod stand_ins;
 pub mod stored;
-pub mod takes;
 pub mod times;
 
 /// The derived Rust.

@@ -4,8 +4,6 @@
 //! holds the lists against the Rattle's own text. Live banks are called through
 //! the header instead, in `live`.
 
-use crate::asked::{Opening, Query, SingleKind, Sound, Take};
-
 /// An exported function as it is declared here.
 #[derive(Clone, Copy, Debug)]
 pub struct Export {
@@ -70,26 +68,6 @@ exports! {
     ) -> u64;
 }
 
-/// The exports that answer readings, by plain numbers.
-pub mod readings {
-    use super::Export;
-
-    exports! {
-        /// All of them.
-        ALL:
-        "worfelli_bank_readings" bank(
-            sample_rate: f64, attack: f32, decay: f32, sustain: f32,
-            voices: usize, notes: u32, kind: u32, times: u32
-        ) -> u64;
-        "worfelli_envelope_frames" single_frames(
-            sample_rate: f64, attack: f32, decay: f32, sustain: f32, times: u32
-        ) -> u64;
-        "worfelli_envelope_readings" single(
-            sample_rate: f64, attack: f32, decay: f32, sustain: f32, kind: u32, times: u32
-        ) -> u64;
-    }
-}
-
 mod lent {
     unsafe extern "C" {
         /// A slice passes as where it begins and how many elements it has.
@@ -98,31 +76,6 @@ mod lent {
             attack: f32,
             decay: f32,
             sustain: f32,
-            out: *mut f32,
-            len: usize,
-        ) -> u32;
-
-        pub fn worfelli_take(
-            sample_rate: f64,
-            attack: f32,
-            decay: f32,
-            sustain: f32,
-            voices: usize,
-            notes: u32,
-            kind: u32,
-            calls: u32,
-            blocks: u32,
-            out: *mut f32,
-            len: usize,
-        ) -> u32;
-
-        pub fn worfelli_envelope_calls(
-            sample_rate: f64,
-            attack: f32,
-            decay: f32,
-            sustain: f32,
-            kind: u32,
-            calls: u32,
             out: *mut f32,
             len: usize,
         ) -> u32;
@@ -141,38 +94,13 @@ mod lent {
     }
 }
 
-/// Exports that write to lent memory.
-pub const LENT: &[Export] = &[
-    Export {
-        name: "note",
-        symbol: "worfelli_note",
-        arguments: &["f64", "f32", "f32", "f32", "&mut [f32]"],
-        result: "u32",
-    },
-    Export {
-        name: "take",
-        symbol: "worfelli_take",
-        arguments: &[
-            "f64",
-            "f32",
-            "f32",
-            "f32",
-            "usize",
-            "u32",
-            "u32",
-            "u32",
-            "u32",
-            "&mut [f32]",
-        ],
-        result: "u32",
-    },
-    Export {
-        name: "single_calls",
-        symbol: "worfelli_envelope_calls",
-        arguments: &["f64", "f32", "f32", "f32", "u32", "u32", "&mut [f32]"],
-        result: "u32",
-    },
-];
+/// The exported note.
+pub const NOTE: Export = Export {
+    name: "note",
+    symbol: "worfelli_note",
+    arguments: &["f64", "f32", "f32", "f32", "&mut [f32]"],
+    result: "u32",
+};
 
 /// The first levels of a new note on a fresh envelope of the Rust's AMP with
 /// this attack, decay and sustain. Answers the refusal's number, or 0.
@@ -189,96 +117,6 @@ pub fn note(sample_rate: f64, attack: f32, decay: f32, sustain: f32, out: &mut [
             out.len(),
         )
     }
-}
-
-/// Plays `take`; each block goes to `out`. Answers the refusal's number, or 0.
-pub fn take(take: Take, out: &mut [f32]) -> u32 {
-    let Opening {
-        sound,
-        voices,
-        notes,
-    } = take.opening;
-    // SAFETY: as for `note`.
-    unsafe {
-        lent::worfelli_take(
-            sound.sample_rate,
-            sound.attack,
-            sound.decay,
-            sound.sustain,
-            voices,
-            notes,
-            take.kind as u32,
-            take.calls,
-            take.blocks,
-            out.as_mut_ptr(),
-            out.len(),
-        )
-    }
-}
-
-/// The sum of so many readings of the voices in turn, modulo 2^64.
-#[must_use]
-pub fn bank_readings(opening: Opening, query: Query, times: u32) -> u64 {
-    let Opening {
-        sound,
-        voices,
-        notes,
-    } = opening;
-    readings::bank(
-        sound.sample_rate,
-        sound.attack,
-        sound.decay,
-        sound.sustain,
-        voices,
-        notes,
-        query as u32,
-        times,
-    )
-}
-
-/// Makes so many calls of a kind on the envelope of a new note, and then writes
-/// its next levels. Answers the refusal's number, or 0.
-pub fn single_calls(sound: Sound, kind: SingleKind, calls: u32, out: &mut [f32]) -> u32 {
-    // SAFETY: as for `note`.
-    unsafe {
-        lent::worfelli_envelope_calls(
-            sound.sample_rate,
-            sound.attack,
-            sound.decay,
-            sound.sustain,
-            kind as u32,
-            calls,
-            out.as_mut_ptr(),
-            out.len(),
-        )
-    }
-}
-
-/// The sum of the bits of a new note's first levels, frame by frame, modulo
-/// 2^64.
-#[must_use]
-pub fn single_frames(sound: Sound, times: u32) -> u64 {
-    readings::single_frames(
-        sound.sample_rate,
-        sound.attack,
-        sound.decay,
-        sound.sustain,
-        times,
-    )
-}
-
-/// The sum of so many readings of a new note's envelope, a frame after each,
-/// modulo 2^64.
-#[must_use]
-pub fn single_readings(sound: Sound, query: Query, times: u32) -> u64 {
-    readings::single(
-        sound.sample_rate,
-        sound.attack,
-        sound.decay,
-        sound.sustain,
-        query as u32,
-        times,
-    )
 }
 
 /// The exports about event lists, of the library for hosts.

@@ -10,7 +10,6 @@
 //! - [`coded`], [`unnamed`] and [`coverage`]: codes that mean nothing, which
 //!   only C can carry, and which of them were asked.
 //! - [`comparison`]: lists through both hosts; [`places`]: where a case stands.
-//! - [`measured`]: the same banks in loops, for the measurements.
 //!
 //! [`banks`]: crate::banks
 
@@ -21,7 +20,6 @@ pub mod expected;
 pub mod functions;
 pub mod held;
 pub mod hosts;
-pub mod measured;
 pub mod outputs;
 pub mod places;
 pub mod through_c;

@@ -25,6 +25,9 @@ pub mod specials;
 pub mod stops;
 pub mod stored;
 
+use crate::arguments::Arguments;
+use random::Drawn;
+
 /// A list, and the bytes of the output that it is played into.
 #[derive(Clone, Debug)]
 pub struct Case {
@@ -38,4 +41,15 @@ pub struct Case {
 #[must_use]
 pub fn before(place: usize) -> u8 {
     (place % 251) as u8
+}
+
+/// The fixed lists and so many random ones.
+///
+/// # Errors
+///
+/// The reference doesn't answer a fixed list as expected.
+pub fn all(Arguments { seed, cases }: Arguments) -> Result<impl Iterator<Item = Drawn>, String> {
+    let fixed = fixed::cases()?.into_iter().chain(fixed::sweeps());
+    let fixed = fixed.map(Drawn::undamaged).collect();
+    Ok(random::lists(seed).after(fixed, cases))
 }

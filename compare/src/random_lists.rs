@@ -7,6 +7,7 @@ use crate::lists::List;
 use crate::random::Random;
 use crate::reference;
 use crate::rust::envelope::{Envelope, EnvelopeParams, Stage, Timing, Trigger};
+use crate::series::Lists;
 use crate::settings::{self, Style};
 
 /// The most calls of a list.
@@ -16,30 +17,10 @@ const CALLS: u64 = 60;
 /// one only now and then, since it takes its time.
 const SHORT_LEAD: u64 = 500;
 
-/// Makes lists, one after another.
-pub struct Lists {
-    random: Random,
-    made: u64,
-}
-
-impl Lists {
-    #[must_use]
-    pub fn new(seed: u64) -> Self {
-        Self {
-            random: Random::named(seed, "lists"),
-            made: 0,
-        }
-    }
-}
-
-impl Iterator for Lists {
-    type Item = List;
-
-    fn next(&mut self) -> Option<List> {
-        let name = format!("list {}", self.made);
-        self.made += 1;
-        Some(list(&mut self.random, name))
-    }
+/// The lists that follow from `seed`.
+#[must_use]
+pub fn lists(seed: u64) -> Lists<List> {
+    Lists::new(seed, "lists", list)
 }
 
 /// The style of a list, with the levels after which its blocks stay short.
@@ -211,20 +192,16 @@ pub fn changed_timing(random: &mut Random, style: Style, envelope: &Envelope) ->
 mod tests {
     use super::*;
     use crate::replay::Asked;
+    use crate::series::tests::follow_their_seed;
 
     #[test]
     fn a_seed_makes_the_same_lists() {
-        let made = |seed| -> Vec<u8> {
-            let lists = Lists::new(seed).take(20);
-            lists.flat_map(|list| list.call_bytes()).collect()
-        };
-        assert_eq!(made(1), made(1));
-        assert_ne!(made(1), made(2));
+        follow_their_seed(lists, |list| list.call_bytes());
     }
 
     #[test]
     fn lists_keep_to_the_protocol() {
-        for list in Lists::new(3).take(300) {
+        for list in lists(3).take(300) {
             assert!(list.steps.len() as u64 <= CALLS);
             assert!(matches!(list.steps[0].call, Call::Fresh(..)));
             for step in &list.steps {

@@ -1,9 +1,6 @@
 //! The files `stdin` and `stdout` that the program is run on wherever there is
 //! no Rust: the calls of the short fixed lists, and the Rust's answers.
 
-use std::fs;
-use std::path::Path;
-
 use crate::banks;
 use crate::fixed;
 use crate::lists::List;
@@ -36,19 +33,13 @@ impl Stored {
     }
 }
 
-/// Writes both files to `folder`.
+/// The bytes of both files.
 ///
 /// # Errors
 ///
-/// They can't be written, or a list doesn't show what it is about. The message
-/// is one line.
-pub fn write(folder: &Path) -> Result<(), String> {
-    let stored = stored()?;
-    for (name, bytes) in [("stdin", &stored.calls), ("stdout", &stored.replies)] {
-        let file = folder.join(name);
-        fs::write(&file, bytes).map_err(|error| format!("{}: {error}", file.display()))?;
-    }
-    Ok(())
+/// A list doesn't show what it is about. The message is one line.
+pub fn files() -> Result<[Vec<u8>; 2], String> {
+    stored().map(|stored| [stored.calls, stored.replies])
 }
 
 fn stored() -> Result<Stored, String> {

@@ -5,7 +5,7 @@
 use std::fs;
 use std::path::Path;
 
-use compare::library::{Export, LENT, LISTS, NUMBERS, readings};
+use compare::library::{Export, LISTS, NOTE, NUMBERS};
 
 /// All source files of a crate.
 fn sources(of: &str) -> Vec<String> {
@@ -65,7 +65,7 @@ fn declared(groups: &[&[Export]]) -> Vec<String> {
 
 #[test]
 fn exports() {
-    let declared = declared(&[NUMBERS, LENT, readings::ALL]);
+    let declared = declared(&[NUMBERS, &[NOTE]]);
     assert_eq!(declared, exports_of("exports"));
 }
 

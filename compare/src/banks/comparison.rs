@@ -8,6 +8,7 @@ use crate::banks::calls::READING;
 use crate::banks::coverage::Coverage;
 use crate::banks::lists::{List, Step};
 use crate::banks::words::{self, SUBJECTS, word_at, words};
+use crate::program::Compared;
 use crate::reference::ACCEPTED;
 use crate::replay::{Compares, ending};
 use crate::report::{Inputs, Tally};
@@ -83,30 +84,6 @@ impl Default for Comparison {
 }
 
 impl Comparison {
-    /// Prints what was reached, and answers whether it was everything.
-    #[must_use]
-    pub fn print(&self) -> bool {
-        println!("{} lists, and each once more with blocks cut", self.lists);
-        self.coverage.print()
-    }
-
-    #[must_use]
-    pub fn tallies(self) -> Vec<Tally> {
-        let mut tallies = vec![self.refusal];
-        tallies.extend(self.readings);
-        tallies.extend([
-            self.run_on,
-            self.readings_by_history,
-            self.levels,
-            self.kept,
-            self.levels_by_history,
-            self.levels_again,
-            self.cut_readings,
-            self.cut_levels,
-        ]);
-        tallies
-    }
-
     /// The answer to a call that reads.
     fn readings(&mut self, place: Place, ours: &[u8; READING], is_cut: bool) {
         let Some(rust) = &place.step.readings else {
@@ -147,6 +124,29 @@ impl Comparison {
                 self.levels_again.check(place, ours, list.levels.again[at]);
             }
         }
+    }
+}
+
+impl Compared for Comparison {
+    fn print(&self) -> bool {
+        println!("{} lists, and each once more with blocks cut", self.lists);
+        self.coverage.print()
+    }
+
+    fn tallies(self) -> Vec<Tally> {
+        let mut tallies = vec![self.refusal];
+        tallies.extend(self.readings);
+        tallies.extend([
+            self.run_on,
+            self.readings_by_history,
+            self.levels,
+            self.kept,
+            self.levels_by_history,
+            self.levels_again,
+            self.cut_readings,
+            self.cut_levels,
+        ]);
+        tallies
     }
 }
 

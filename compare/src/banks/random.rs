@@ -8,6 +8,7 @@ use crate::banks::lists::{Draft, List};
 use crate::random::Random;
 use crate::random_lists::{changed_settings, changed_timing, exceed, fresh};
 use crate::rust::envelope::{Envelope, EnvelopeBank, EnvelopeParams, Timing, Trigger};
+use crate::series::Lists;
 use crate::settings::{self, Style};
 
 /// The most calls of a list beside its chord and the readings.
@@ -24,30 +25,10 @@ const COUNTS: [u64; 11] = [0, 1, 15, 16, 17, 32, 33, 48, 49, 63, 64];
 
 const TRIGGERS: [Trigger; 3] = [Trigger::New, Trigger::Retrigger, Trigger::Legato];
 
-/// Makes lists, one after another.
-pub struct Lists {
-    random: Random,
-    made: u64,
-}
-
-impl Lists {
-    #[must_use]
-    pub fn new(seed: u64) -> Self {
-        Self {
-            random: Random::named(seed, "banks"),
-            made: 0,
-        }
-    }
-}
-
-impl Iterator for Lists {
-    type Item = List;
-
-    fn next(&mut self) -> Option<List> {
-        let name = format!("list {}", self.made);
-        self.made += 1;
-        Some(list(&mut self.random, name))
-    }
+/// The lists that follow from `seed`.
+#[must_use]
+pub fn lists(seed: u64) -> Lists<List> {
+    Lists::new(seed, "banks", list)
 }
 
 /// What a list is made of.
@@ -261,20 +242,16 @@ fn frames(random: &mut Random, style: Style, envelope: Option<&Envelope>, room: 
 mod tests {
     use super::*;
     use crate::replay::Asked;
+    use crate::series::tests::follow_their_seed;
 
     #[test]
     fn a_seed_makes_the_same_lists() {
-        let made = |seed| -> Vec<u8> {
-            let lists = Lists::new(seed).take(20);
-            lists.flat_map(|list| list.call_bytes()).collect()
-        };
-        assert_eq!(made(1), made(1));
-        assert_ne!(made(1), made(2));
+        follow_their_seed(lists, |list| list.call_bytes());
     }
 
     #[test]
     fn lists_keep_to_the_protocol() {
-        for list in Lists::new(3).take(400) {
+        for list in lists(3).take(400) {
             assert!(matches!(list.steps[0].call, Call::Open(..)));
             for step in &list.steps {
                 assert!(step.call.levels() <= LONGEST as usize);

@@ -10,13 +10,13 @@
 
 use std::arch::x86_64::_mm_lfence;
 use std::hint::black_box;
-use std::time::Instant;
 
 use compare::library;
+use compare::program::SEED;
 use compare::random::Random;
 use compare::stand_ins;
 
-use crate::{REPETITIONS, SEED, median};
+use crate::in_turns;
 
 const INPUTS: usize = 4096;
 
@@ -142,26 +142,20 @@ enum Pace {
     Apart,
 }
 
-/// The median nanoseconds per call of both sides on `inputs` at both paces,
-/// measured in turns so that a busy machine slows both.
+/// The median nanoseconds per call of both sides on `inputs` at both paces.
 fn measure<I: Copy, O>(
     inputs: &[I],
     ours: impl Fn(I) -> O,
     rust: impl Fn(I) -> O,
-) -> [(f64, f64); 2] {
+) -> [[f64; 2]; 2] {
     [Pace::Overlapped, Pace::Apart].map(|pace| {
-        let (mut ours_times, mut rust_times) = (Vec::new(), Vec::new());
-        for _ in 0..REPETITIONS {
-            ours_times.push(once(inputs, pace, &ours));
-            rust_times.push(once(inputs, pace, &rust));
-        }
-        (median(ours_times), median(rust_times))
+        in_turns(|| all(inputs, pace, &ours), || all(inputs, pace, &rust))
+            .map(|nanoseconds| nanoseconds / inputs.len() as f64)
     })
 }
 
-/// Nanoseconds per call, over all `inputs` once.
-fn once<I: Copy, O>(inputs: &[I], pace: Pace, call: impl Fn(I) -> O) -> f64 {
-    let start = Instant::now();
+/// Calls on all `inputs`, once.
+fn all<I: Copy, O>(inputs: &[I], pace: Pace, call: impl Fn(I) -> O) {
     match pace {
         Pace::Overlapped => {
             for &input in inputs {
@@ -176,11 +170,10 @@ fn once<I: Copy, O>(inputs: &[I], pace: Pace, call: impl Fn(I) -> O) -> f64 {
             }
         }
     }
-    start.elapsed().as_nanos() as f64 / inputs.len() as f64
 }
 
-fn print_row(name: &str, about: &str, medians: [(f64, f64); 2]) {
-    let figures = medians.map(|(ours, rust)| {
+fn print_row(name: &str, about: &str, medians: [[f64; 2]; 2]) {
+    let figures = medians.map(|[ours, rust]| {
         let ratio = ours / rust;
         format!("{ours:.2} | {rust:.2} | {ratio:.2}")
     });

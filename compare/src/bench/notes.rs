@@ -1,15 +1,17 @@
 //! Notes of the single envelope beside those of the Rust's.
 
 use std::hint::black_box;
-use std::time::Instant;
 
 use compare::library;
 use compare::rust::envelope::{Envelope, EnvelopeParams, Timing, Trigger};
 
-use crate::{REPETITIONS, median};
+use crate::in_turns;
 
 /// A note's numbers: sample rate, attack, decay, sustain.
 type Note = (f64, f32, f32, f32);
+
+/// The frames of a pass, which is one note or more.
+const FRAMES: usize = 1 << 16;
 
 /// A new note with a bent decay of 5 s at 48 kHz: planned, and drawn in one
 /// block. Short blocks are mostly planning, long ones mostly drawing.
@@ -22,13 +24,11 @@ pub fn print() {
         our_note(NOTE, &mut out);
         rust_note(NOTE, &mut expected);
         assert_eq!(out, expected, "the levels of a note of {frames} frames");
-        let repeats = (1 << 16) / frames;
-        let (mut ours, mut rust) = (Vec::new(), Vec::new());
-        for _ in 0..REPETITIONS {
-            ours.push(per_frame(repeats, &mut out, our_note, NOTE));
-            rust.push(per_frame(repeats, &mut out, rust_note, NOTE));
-        }
-        let (ours, rust) = (median(ours), median(rust));
+        let [ours, rust] = in_turns(
+            || played(&mut out, our_note, NOTE),
+            || played(&mut expected, rust_note, NOTE),
+        )
+        .map(|nanoseconds| nanoseconds / FRAMES as f64);
         println!("| {frames} | {ours:.2} | {rust:.2} | {:.2} |", ours / rust);
     }
 }
@@ -50,12 +50,10 @@ fn rust_note((rate, attack, decay, sustain): Note, out: &mut [f32]) {
     envelope.process(out);
 }
 
-/// Nanoseconds per frame of `note`, played `repeats` times.
-fn per_frame(repeats: usize, out: &mut [f32], note: fn(Note, &mut [f32]), numbers: Note) -> f64 {
-    let start = Instant::now();
-    for _ in 0..repeats {
+/// A note, played until so many frames have been drawn.
+fn played(out: &mut [f32], note: fn(Note, &mut [f32]), numbers: Note) {
+    for _ in 0..FRAMES / out.len() {
         note(black_box(numbers), out);
         black_box(&mut *out);
     }
-    start.elapsed().as_nanos() as f64 / (repeats * out.len()) as f64
 }

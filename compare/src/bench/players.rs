@@ -3,13 +3,15 @@
 
 use std::hint::black_box;
 
+use compare::banks::refusals;
 use compare::library;
 use compare::players::records::{Event, records};
 use compare::players::reference;
+use compare::program::SEED;
 use compare::random::Random;
 use compare::rust::envelope::{EnvelopeParams, Timing, Trigger};
 
-use crate::{SEED, in_turns, stacks};
+use crate::{in_turns, stacks};
 
 /// The bytes of a long take's output.
 const LONG: usize = 8 << 20;
@@ -104,7 +106,7 @@ impl List {
 }
 
 fn stride(voices: u8) -> usize {
-    usize::from(voices).div_ceil(16).max(1) * 16
+    refusals::stride(voices.into()) as usize
 }
 
 /// A note on every voice, then long blocks with a few events before each: as
@@ -145,13 +147,13 @@ fn short_list(voices: u8, every: usize, frames: u32) -> Vec<u8> {
 }
 
 /// The median nanoseconds of playing `list` so many times into so many bytes.
-fn plays(list: &[u8], times: usize, out_len: usize) -> (f64, f64) {
+fn plays(list: &[u8], times: usize, out_len: usize) -> [f64; 2] {
     let (mut out, mut expected) = (vec![0; out_len], vec![0; out_len]);
     let frames = library::play(list, &mut out);
     assert!(frames >= 0, "a list that is measured is refused");
     assert_eq!(frames, reference::play(list, &mut expected), "the frames");
     assert!(out == expected, "the levels");
-    let (ours, rust) = in_turns(
+    in_turns(
         || {
             for _ in 0..times {
                 black_box(library::play(black_box(list), black_box(&mut out)));
@@ -162,8 +164,8 @@ fn plays(list: &[u8], times: usize, out_len: usize) -> (f64, f64) {
                 black_box(reference::play(black_box(list), black_box(&mut expected)));
             }
         },
-    );
-    (ours / times as f64, rust / times as f64)
+    )
+    .map(|nanoseconds| nanoseconds / times as f64)
 }
 
 fn long_takes() {
@@ -171,7 +173,7 @@ fn long_takes() {
     println!("|---|---:|---:|---:|---:|---:|");
     for (about, moving) in [("every voice moving", true), ("events as they come", false)] {
         for voices in [1, 16, 64] {
-            let (ours, rust) = plays(&long_take(voices, moving), 1, LONG);
+            let [ours, rust] = plays(&long_take(voices, moving), 1, LONG);
             let levels = LONG / 4;
             let each = |nanoseconds: f64| nanoseconds / levels as f64;
             println!(
@@ -198,7 +200,7 @@ fn short_lists() {
         for voices in [16, 64] {
             let list = short_list(voices, every, frames);
             let levels = EVENTS / every * frames as usize * stride(voices);
-            let (ours, rust) = plays(&list, 8, 4 * SHORT);
+            let [ours, rust] = plays(&list, 8, 4 * SHORT);
             println!(
                 "| {about} | {voices} | {levels} | {:.1} | {:.1} | {:.2} |",
                 ours / 1e3,
@@ -251,7 +253,7 @@ fn kinds() {
                 push(&mut list);
             }
             let levels = RECORDS * frames * stride(voices);
-            let (ours, rust) = plays(&list.bytes, 4, 4 * levels);
+            let [ours, rust] = plays(&list.bytes, 4, 4 * levels);
             let each = |nanoseconds: f64| nanoseconds / RECORDS as f64;
             println!(
                 "| {about} | {voices} | {:.1} | {:.1} | {:.2} |",
@@ -279,7 +281,7 @@ fn growing_lists() {
             }
         }
         let levels = records / 10 * 4 * stride(64);
-        let (ours, rust) = plays(&list.bytes, 10_000 / records, 4 * levels);
+        let [ours, rust] = plays(&list.bytes, 10_000 / records, 4 * levels);
         let each = |nanoseconds: f64| nanoseconds / records as f64;
         println!(
             "| {records} | 64 | {:.1} | {:.1} | {:.2} | {:.1} | {:.1} |",
@@ -343,11 +345,11 @@ fn checks() {
                 black_box(call(black_box(&list), black_box(LONG)));
             }
         };
-        let (ours, rust) = in_turns(
+        let [ours, rust] = in_turns(
             || asked(library::refused_at),
             || asked(reference::refused_at),
-        );
-        let (ours, rust) = (ours / f64::from(times), rust / f64::from(times));
+        )
+        .map(|nanoseconds| nanoseconds / f64::from(times));
         let (records, bytes) = (records(&list).count(), list.len());
         println!(
             "| {about} | {records} | {bytes} | {:.2} | {:.2} | {:.3} | {:.3} | {:.2} |",

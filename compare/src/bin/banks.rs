@@ -3,13 +3,11 @@
 
 use std::process::ExitCode;
 
-use compare::arguments::{self, Arguments};
+use compare::arguments::Arguments;
+use compare::banks;
 use compare::banks::comparison::Comparison;
-use compare::banks::fixed;
-use compare::banks::lists::with_cuts;
-use compare::banks::random::Lists;
+use compare::program::Program;
 use compare::replay;
-use compare::report;
 
 const HELP: &str = "\
 Compares the bank of the program replay with the Rust, bits against bits, on
@@ -23,30 +21,17 @@ crates/replay/out/replay of the repository.
   --seed N    what the random lists follow from, decimal or 0x hexadecimal
   --cases N   random lists, beside the fixed ones";
 
-const DEFAULTS: Arguments = Arguments {
-    seed: 0x776f_7266_656c_6c69,
-    cases: 16_000,
-};
-
 fn main() -> ExitCode {
-    let compared = match arguments::read(HELP, DEFAULTS) {
-        Ok(arguments) => compare(arguments),
-        Err(status) => Ok(status),
+    let program = Program {
+        help: HELP,
+        cases: 16_000,
+        stored: None,
     };
-    compared.unwrap_or_else(|message| {
-        eprintln!("{message}");
-        ExitCode::FAILURE
-    })
+    program.run(compare)
 }
 
-fn compare(arguments: Arguments) -> Result<ExitCode, String> {
-    println!("seed {:#x}", arguments.seed);
-    let fixed = fixed::lists()?;
-    let random = Lists::new(arguments.seed).take(arguments.cases as usize);
-    let lists = with_cuts(fixed.into_iter().chain(random), arguments.seed);
+fn compare(arguments: Arguments) -> Result<Comparison, String> {
     let mut comparison = Comparison::default();
-    replay::compare(&replay::program(), lists, &mut comparison)?;
-    let reached = comparison.print();
-    let status = report::finish(&comparison.tallies());
-    Ok(if reached { status } else { ExitCode::FAILURE })
+    replay::compare(&replay::program(), banks::all(arguments)?, &mut comparison)?;
+    Ok(comparison)
 }

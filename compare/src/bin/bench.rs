@@ -1,7 +1,7 @@
-//! Measures the number helpers, notes, calls and readings of the single envelope
-//! and of the bank, its blocks, how they grow, the bank as hosts call it, and
-//! event lists of the player beside their Rust counterparts, and prints
-//! nanoseconds as Markdown tables. It asserts nothing about time.
+//! Measures the number helpers, notes of the single envelope, a bank as hosts
+//! call it, its blocks and how they grow, and event lists of the player beside
+//! their Rust counterparts, and prints nanoseconds as Markdown tables. It
+//! asserts nothing about time.
 
 #[path = "../bench/banks.rs"]
 mod banks;
@@ -11,10 +11,10 @@ mod envelopes;
 mod growth;
 #[path = "../bench/helpers.rs"]
 mod helpers;
-#[path = "../bench/live.rs"]
-mod live;
 #[path = "../bench/notes.rs"]
 mod notes;
+#[path = "../bench/passes.rs"]
+mod passes;
 #[path = "../bench/players.rs"]
 mod players;
 #[path = "../bench/stacks.rs"]
@@ -27,28 +27,24 @@ use compare::arguments::BAD_ARGUMENTS;
 use compare::simd;
 
 const HELP: &str = "\
-Measures the number helpers, notes, blocks, calls and readings of an envelope
-and of a bank, how they grow, those of a live bank over C and over the crate of
-hosts/rust, and event lists of the Rattle libraries and of the Rust on the same
+Measures the number helpers, notes of the single envelope, blocks, calls and
+readings of one voice and of a bank over C and over the crate of hosts/rust, how
+they grow, and event lists of the Rattle libraries and of the Rust on the same
 inputs, in turns, and prints the median nanoseconds per call, per frame of a
 note, per level of a block, and per level, list, record and byte of event lists,
 as Markdown tables; and how far down the stack the player's calls go. A name
-prints that part alone: helpers, notes, envelopes, banks, growth, live, players.";
+prints that part alone: helpers, notes, envelopes, banks, growth, players.";
 
-/// Nanoseconds of ours and of the Rust's.
-type Pair = (f64, f64);
-
-const SEED: u64 = 0x776f_7266_656c_6c69;
-const REPETITIONS: usize = 101;
+/// The passes of a row.
+const PASSES: usize = 101;
 
 /// The parts, in the order of printing.
-const PARTS: [(&str, fn()); 7] = [
+const PARTS: [(&str, fn()); 6] = [
     ("helpers", helpers::print),
     ("notes", notes::print),
     ("envelopes", envelopes::print),
     ("banks", banks::print),
     ("growth", growth::print),
-    ("live", live::print),
     ("players", players::print),
 ];
 
@@ -65,12 +61,9 @@ fn main() -> ExitCode {
         }
         asked => asked,
     };
+    // Only the Rust's bank has groups of lanes that stand still.
+    simd::use_still_shortcut();
     for (name, print) in PARTS {
-        // The helpers and the single envelope have no group of lanes to stand
-        // still.
-        if matches!(name, "banks" | "growth" | "live" | "players") {
-            simd::use_still_shortcut();
-        }
         if asked.is_none_or(|asked| asked == name) {
             print();
         }
@@ -78,31 +71,25 @@ fn main() -> ExitCode {
     ExitCode::SUCCESS
 }
 
-/// The median nanoseconds of both sides, measured in turns so that a busy
-/// machine slows both.
-fn in_turns(mut ours: impl FnMut(), mut rust: impl FnMut()) -> Pair {
-    let (mut ours_times, mut rust_times) = (Vec::new(), Vec::new());
-    for _ in 0..REPETITIONS {
-        let start = Instant::now();
-        ours();
-        ours_times.push(start.elapsed().as_nanos() as f64);
-        let start = Instant::now();
-        rust();
-        rust_times.push(start.elapsed().as_nanos() as f64);
-    }
-    (median(ours_times), median(rust_times))
+/// The nanoseconds that something takes.
+fn nanoseconds(done: impl FnOnce()) -> f64 {
+    let start = Instant::now();
+    done();
+    start.elapsed().as_nanos() as f64
 }
 
-fn median(mut times: Vec<f64>) -> f64 {
-    times.sort_by(f64::total_cmp);
-    times[times.len() / 2]
+/// The median nanoseconds of ours and of the Rust's, measured in turns so that
+/// a busy machine slows both.
+fn in_turns(mut ours: impl FnMut(), mut rust: impl FnMut()) -> [f64; 2] {
+    medians(|| [nanoseconds(&mut ours), nanoseconds(&mut rust)])
 }
 
-/// What is left of both sides.
-fn less(all: Pair, without: Pair) -> Pair {
-    (all.0 - without.0, all.1 - without.1)
-}
-
-fn print_row(about: &str, (ours, rust): Pair) {
-    println!("| {about} | {ours:.2} | {rust:.2} | {:.2} |", ours / rust);
+/// The medians of what passes answer.
+fn medians<const N: usize>(mut pass: impl FnMut() -> [f64; N]) -> [f64; N] {
+    let passes: Vec<[f64; N]> = (0..PASSES).map(|_| pass()).collect();
+    std::array::from_fn(|side| {
+        let mut times: Vec<f64> = passes.iter().map(|times| times[side]).collect();
+        times.sort_by(f64::total_cmp);
+        times[PASSES / 2]
+    })
 }

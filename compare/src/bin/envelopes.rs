@@ -1,17 +1,12 @@
 //! Compares the single envelope of the Rattle with the Rust, bits against
 //! bits: fixed and random lists of calls, asked of the program `replay`.
 
-use std::env;
-use std::path::Path;
 use std::process::ExitCode;
 
-use compare::arguments::{self, Arguments};
+use compare::arguments::Arguments;
 use compare::comparison::Comparison;
-use compare::fixed;
-use compare::random_lists::Lists;
-use compare::replay;
-use compare::report;
-use compare::stored;
+use compare::program::Program;
+use compare::{fixed, random_lists, replay, stored};
 
 const HELP: &str = "\
 Compares the program replay with the Rust's envelope, bits against bits, on
@@ -26,39 +21,18 @@ crates/replay/out/replay of the repository.
               lists, the bank's too, to DIR/stdin and the Rust's answers to
               DIR/stdout";
 
-const DEFAULTS: Arguments = Arguments {
-    seed: 0x776f_7266_656c_6c69,
-    cases: 24_000,
-};
-
 fn main() -> ExitCode {
-    let given: Vec<String> = env::args().skip(1).collect();
-    let done = match given.as_slice() {
-        [write, folder] if write == "--write" => {
-            stored::write(Path::new(folder)).map(|()| ExitCode::SUCCESS)
-        }
-        _ => match arguments::read(HELP, DEFAULTS) {
-            Ok(arguments) => compare(arguments),
-            Err(status) => Ok(status),
-        },
+    let program = Program {
+        help: HELP,
+        cases: 24_000,
+        stored: Some(stored::files),
     };
-    done.unwrap_or_else(|message| {
-        eprintln!("{message}");
-        ExitCode::FAILURE
-    })
+    program.run(compare)
 }
 
-fn compare(arguments: Arguments) -> Result<ExitCode, String> {
-    println!("seed {:#x}", arguments.seed);
-    let fixed = fixed::lists()?;
-    let random = Lists::new(arguments.seed).take(arguments.cases as usize);
+fn compare(Arguments { seed, cases }: Arguments) -> Result<Comparison, String> {
+    let lists = random_lists::lists(seed).after(fixed::lists()?, cases);
     let mut comparison = Comparison::default();
-    replay::compare(
-        &replay::program(),
-        fixed.into_iter().chain(random),
-        &mut comparison,
-    )?;
-    let reached = comparison.coverage.print();
-    let status = report::finish(&comparison.tallies());
-    Ok(if reached { status } else { ExitCode::FAILURE })
+    replay::compare(&replay::program(), lists, &mut comparison)?;
+    Ok(comparison)
 }

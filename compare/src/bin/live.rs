@@ -3,12 +3,10 @@
 
 use std::process::ExitCode;
 
-use compare::arguments::{self, Arguments};
-use compare::banks::fixed;
-use compare::banks::lists::with_cuts;
-use compare::banks::random::Lists;
+use compare::arguments::Arguments;
+use compare::banks;
 use compare::live::comparison::Comparison;
-use compare::report;
+use compare::program::Program;
 
 const HELP: &str = "\
 Compares live banks with the Rust's bank, bits against bits, on fixed and random
@@ -22,31 +20,19 @@ never reached (a few hundred lists reach everything).
   --seed N    what the random lists follow from, decimal or 0x hexadecimal
   --cases N   random lists, beside the fixed ones";
 
-const DEFAULTS: Arguments = Arguments {
-    seed: 0x776f_7266_656c_6c69,
-    cases: 16_000,
-};
-
 fn main() -> ExitCode {
-    let compared = match arguments::read(HELP, DEFAULTS) {
-        Ok(arguments) => compare(arguments),
-        Err(status) => Ok(status),
+    let program = Program {
+        help: HELP,
+        cases: 16_000,
+        stored: None,
     };
-    compared.unwrap_or_else(|message| {
-        eprintln!("{message}");
-        ExitCode::FAILURE
-    })
+    program.run(compare)
 }
 
-fn compare(arguments: Arguments) -> Result<ExitCode, String> {
-    println!("seed {:#x}", arguments.seed);
+fn compare(arguments: Arguments) -> Result<Comparison, String> {
     let mut comparison = Comparison::new(arguments.seed)?;
-    let fixed = fixed::lists()?;
-    let random = Lists::new(arguments.seed).take(arguments.cases as usize);
-    for list in with_cuts(fixed.into_iter().chain(random), arguments.seed) {
+    for list in banks::all(arguments)? {
         comparison.list(&list);
     }
-    let reached = comparison.print();
-    let status = report::finish(&comparison.tallies());
-    Ok(if reached { status } else { ExitCode::FAILURE })
+    Ok(comparison)
 }

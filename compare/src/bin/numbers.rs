@@ -4,11 +4,12 @@
 
 use std::process::ExitCode;
 
-use compare::arguments::{self, Arguments};
+use compare::arguments::Arguments;
 use compare::floats;
 use compare::library::{self, Export};
+use compare::program::{Compared, Program};
 use compare::random::Random;
-use compare::report::{self, Bits, Tally};
+use compare::report::{Bits, Tally};
 use compare::rust::envelope::{TimeUnit, Timing, unit_of};
 use compare::stand_ins;
 use compare::times::{self, Time};
@@ -19,11 +20,6 @@ bits, on edge cases and random inputs. Prints each difference, the cases of
 each helper and their sum; the status is 1 on any difference.
   --seed N    what the random inputs follow from, decimal or 0x hexadecimal
   --cases N   random inputs of each kind, beside the fixed ones";
-
-const DEFAULTS: Arguments = Arguments {
-    seed: 0x776f_7266_656c_6c69,
-    cases: 2_000_000,
-};
 
 /// Where a helper's random inputs come from.
 struct Source {
@@ -52,26 +48,40 @@ const COMPARISONS: [(&str, Comparison); 16] = [
     ("samples", samples),
 ];
 
+/// The counts of each helper.
+struct Helpers(Vec<Tally>);
+
+impl Compared for Helpers {
+    /// A helper without a case is told by its count.
+    fn print(&self) -> bool {
+        true
+    }
+
+    fn tallies(self) -> Vec<Tally> {
+        self.0
+    }
+}
+
 fn main() -> ExitCode {
-    let arguments = match arguments::read(HELP, DEFAULTS) {
-        Ok(arguments) => arguments,
-        Err(status) => return status,
+    let program = Program {
+        help: HELP,
+        cases: 2_000_000,
+        stored: None,
     };
-    println!("seed {:#x}", arguments.seed);
+    program.run(|arguments| Ok(compare(arguments)))
+}
+
+fn compare(Arguments { seed, cases }: Arguments) -> Helpers {
     // By the library's list, so that a helper nobody compares has no case.
-    let mut tallies = Vec::new();
-    for &Export { name, .. } in library::NUMBERS {
+    let tallies = library::NUMBERS.iter().map(|&Export { name, .. }| {
         let mut tally = Tally::new(name);
         if let Some((_, comparison)) = COMPARISONS.iter().find(|(of, _)| *of == name) {
-            let mut source = Source {
-                random: Random::named(arguments.seed, name),
-                cases: arguments.cases,
-            };
-            comparison(&mut source, &mut tally);
+            let random = Random::named(seed, name);
+            comparison(&mut Source { random, cases }, &mut tally);
         }
-        tallies.push(tally);
-    }
-    report::finish(&tallies)
+        tally
+    });
+    Helpers(tallies.collect())
 }
 
 /// The edges of binary32, and even steps through all its bit patterns.

@@ -13,6 +13,7 @@ use crate::live::through_c::ThroughC;
 use crate::live::through_rust::ThroughRust;
 use crate::live::unnamed::Unnamed;
 use crate::players::stops;
+use crate::program::Compared;
 use crate::report::Tally;
 
 /// Both hosts, and what was reached.
@@ -75,10 +76,10 @@ impl Comparison {
             self.version.check(place, version, VERSION);
         }
     }
+}
 
-    /// Prints what was reached, and answers whether it was everything.
-    #[must_use]
-    pub fn print(&self) -> bool {
+impl Compared for Comparison {
+    fn print(&self) -> bool {
         println!("{} lists, and each once more with blocks cut", self.lists);
         let ThroughC {
             copies,
@@ -90,8 +91,7 @@ impl Comparison {
         calls && codes && copies > 0 && over_any_bytes > 0
     }
 
-    #[must_use]
-    pub fn tallies(self) -> Vec<Tally> {
+    fn tallies(self) -> Vec<Tally> {
         let mut tallies = self.c.tallies();
         tallies.extend(self.unnamed.tallies());
         tallies.push(self.version);

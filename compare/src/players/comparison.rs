@@ -12,6 +12,7 @@ use crate::players::memory::{Guarded, Side};
 use crate::players::random::LONGEST;
 use crate::players::records::{Event, record, records};
 use crate::players::{Case, before, reference, stops};
+use crate::program::Compared;
 use crate::random::Random;
 use crate::report::{Inputs, Tally};
 
@@ -248,16 +249,15 @@ impl Comparison {
         let (out, _) = self.sides.out.part(self.sides.side, cut.out_len);
         bytes(&mut self.cut_output, &cut, 0, out, &self.sides.expected);
     }
+}
 
-    /// Prints what was reached, and answers whether it was everything.
-    #[must_use]
-    pub fn print(&self) -> bool {
+impl Compared for Comparison {
+    fn print(&self) -> bool {
         println!("{} lists", self.lists);
         self.coverage.print()
     }
 
-    #[must_use]
-    pub fn tallies(self) -> Vec<Tally> {
+    fn tallies(self) -> Vec<Tally> {
         vec![
             self.result,
             self.place,

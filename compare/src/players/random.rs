@@ -13,6 +13,7 @@ use crate::players::specials;
 use crate::random::Random;
 use crate::reference::{ACCEPTED, fresh_refusal};
 use crate::rust::envelope::{EnvelopeParams, Timing, Trigger};
+use crate::series::Lists;
 use crate::settings::{self, Style};
 
 /// The most bytes of an output.
@@ -33,30 +34,21 @@ pub struct Drawn {
     pub damages: Vec<Damage>,
 }
 
-/// Makes lists, one after another.
-pub struct Lists {
-    random: Random,
-    made: u64,
-}
-
-impl Lists {
+impl Drawn {
+    /// A list to which nothing was done.
     #[must_use]
-    pub fn new(seed: u64) -> Self {
+    pub fn undamaged(case: Case) -> Self {
         Self {
-            random: Random::named(seed, "players"),
-            made: 0,
+            case,
+            damages: Vec::new(),
         }
     }
 }
 
-impl Iterator for Lists {
-    type Item = Drawn;
-
-    fn next(&mut self) -> Option<Drawn> {
-        let name = format!("list {}", self.made);
-        self.made += 1;
-        Some(drawn(&mut self.random, name))
-    }
+/// The lists that follow from `seed`.
+#[must_use]
+pub fn lists(seed: u64) -> Lists<Drawn> {
+    Lists::new(seed, "players", drawn)
 }
 
 fn plan(random: &mut Random) -> Plan {
@@ -182,20 +174,16 @@ fn output(random: &mut Random, levels: usize, damaged: bool) -> usize {
 mod tests {
     use super::*;
     use crate::players::checks::check;
+    use crate::series::tests::follow_their_seed;
 
     #[test]
     fn a_seed_makes_the_same_lists() {
-        let made = |seed| -> Vec<u8> {
-            let lists = Lists::new(seed).take(20);
-            lists.flat_map(|drawn| drawn.case.list).collect()
-        };
-        assert_eq!(made(1), made(1));
-        assert_ne!(made(1), made(2));
+        follow_their_seed(lists, |drawn| drawn.case.list);
     }
 
     #[test]
     fn what_is_not_damaged_is_accepted_where_it_has_room() {
-        for drawn in Lists::new(3).take(400) {
+        for drawn in lists(3).take(400) {
             assert!(drawn.case.out_len <= LONGEST);
             if drawn.damages.is_empty() {
                 assert!(check(&drawn.case.list, LONGEST).is_ok());

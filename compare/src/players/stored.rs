@@ -10,6 +10,7 @@ use std::fs;
 use std::path::Path;
 
 use crate::players::{Case, before, fixed, reference};
+use crate::program::FILES;
 
 /// The longest list and output that the program takes.
 const LONGEST_LIST: usize = 16_384;
@@ -24,18 +25,13 @@ struct Stored {
     stdout: Vec<u8>,
 }
 
-/// Writes both files to `folder`.
+/// The bytes of both files.
 ///
 /// # Errors
 ///
-/// They can't be written, or a list doesn't show what it is about. The message
-/// is one line.
-pub fn write(folder: &Path) -> Result<(), String> {
-    for (name, bytes) in files(&stored()?) {
-        let file = folder.join(name);
-        fs::write(&file, bytes).map_err(|error| format!("{}: {error}", file.display()))?;
-    }
-    Ok(())
+/// A list doesn't show what it is about. The message is one line.
+pub fn files() -> Result<[Vec<u8>; 2], String> {
+    stored().map(|stored| [stored.stdin, stored.stdout])
 }
 
 /// Whether both files in the repository are what would be written.
@@ -45,19 +41,15 @@ pub fn write(folder: &Path) -> Result<(), String> {
 /// One of them isn't. The message is one line.
 pub fn compare() -> Result<(), String> {
     let folder = Path::new(env!("CARGO_MANIFEST_DIR")).join(FOLDER);
-    for (name, bytes) in files(&stored()?) {
+    for (name, bytes) in FILES.into_iter().zip(files()?) {
         let file = folder.join(name);
         let found = fs::read(&file).map_err(|error| format!("{}: {error}", file.display()))?;
-        if found != *bytes {
+        if found != bytes {
             let shown = file.display();
             return Err(format!("{shown} is not what --write writes"));
         }
     }
     Ok(())
-}
-
-fn files(stored: &Stored) -> [(&'static str, &Vec<u8>); 2] {
-    [("stdin", &stored.stdin), ("stdout", &stored.stdout)]
 }
 
 fn stored() -> Result<Stored, String> {

@@ -1,26 +1,18 @@
-// The number helpers, `Timing::samples`, and notes, calls and readings of the single envelope and of the
-// bank for C and Rust to link: the comparison with the Rust and the measurements call them. Each is the
-// library's function under a symbol of its own, or a few of its calls.
+// The number helpers, `Timing::samples` and a note of the single envelope for C and Rust to link, each under a
+// symbol of its own: the comparison with the Rust and the measurements call them.
 #![tactic(auto)]
 
-mod asked;
-mod banks;
-mod envelopes;
+mod notes;
 
-ghost use Rattle.std.specs.Prelude.{◌≡◌, length, pos, from_bits, to_bits};
+ghost use Rattle.std.specs.Prelude.{◌≡◌, pos, from_bits, to_bits};
 ghost use Rattle.std.specs.Float.{binary32, binary64};
 ghost use Rattle.std.specs.Float.Ieee.{of_int};
 ghost use Rattle.numbers.specs.Conversions as Conversions;
 ghost use Rattle.numbers.specs.Limits as Limits;
 ghost use Rattle.numbers.specs.StandIns as StandIns;
 ghost use Rattle.timing.specs.Samples as Samples;
-ghost use Rattle.timing.specs.Clock as Timings;
-ghost use Rattle.settings.specs.declared.settings.Trigger.TheVariants.{New};
-ghost use Rattle.envelope.specs.Envelopes as Envelopes;
 ghost use Rattle.exports.specs.Clock as Clock;
-ghost use Rattle.exports.specs.Note as Note;
 
-use settings::number_of;
 use timing::{TimeUnit, Timing};
 
 #[unsafe(no_mangle)]
@@ -151,22 +143,4 @@ pub extern "C" fn worfelli_samples(
         TimeUnit::Milliseconds
     };
     timing.samples(value, unit)
-}
-
-// The first levels of a new note on a fresh envelope of AMP with this attack, decay and sustain.
-// Answers the fresh call's refusal; refused, the note is played on the blank envelope.
-#[unsafe(no_mangle)]
-pub extern "C" fn worfelli_note(
-    sample_rate: f64,
-    attack: f32,
-    decay: f32,
-    sustain: f32,
-    out: &mut [f32],
-) -> u32
-    ensures refusal { result ≡ (Envelopes.fresh (Note.settings attack decay sustain) (Timings.new sample_rate)).refusal }
-    ensures written { out.new ≡ Envelopes.levels (length out.old) (Envelopes.trigger New (Envelopes.fresh (Note.settings attack decay sustain) (Timings.new sample_rate)).envelope) }
-{
-    let answer = envelopes::fresh(sample_rate, attack, decay, sustain);
-    envelopes::struck(answer).after_process(out);
-    number_of(answer)
 }

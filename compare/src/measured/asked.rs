@@ -1,5 +1,5 @@
-//! What the measurements ask of the Rattle's library and of the Rust: calls and
-//! readings of a bank and of the single envelope, over and over.
+//! What is asked of a bank that is measured: the sound of its voices, and the
+//! kinds of calls and of readings, by the numbers that live/loops.c has for them.
 
 use crate::rust::envelope::{EnvelopeParams, Timing};
 
@@ -44,7 +44,7 @@ impl Sound {
     }
 }
 
-/// Calls of one kind on the voices of a bank in turn, by the library's numbers.
+/// Calls of one kind on the voices in turn.
 #[derive(Clone, Copy, Debug, PartialEq, Eq)]
 pub enum Kind {
     /// A new note.
@@ -81,7 +81,7 @@ impl Kind {
     }
 }
 
-/// Every kind of calls of a bank.
+/// Every kind of calls.
 pub const KINDS: [Kind; 12] = [
     Kind::Trigger,
     Kind::Release,
@@ -97,36 +97,6 @@ pub const KINDS: [Kind; 12] = [
     Kind::OtherTiming,
 ];
 
-/// Calls of one kind on the single envelope, likewise.
-#[derive(Clone, Copy, Debug, PartialEq, Eq)]
-pub enum SingleKind {
-    Trigger = 0,
-    Release = 1,
-    Settings = 2,
-    OtherSettings = 3,
-    Reset = 4,
-    Retrigger = 5,
-    Legato = 6,
-    Timing = 7,
-    OtherTiming = 8,
-    /// A fresh envelope.
-    Fresh = 9,
-}
-
-/// Every kind of calls of the single envelope.
-pub const SINGLE_KINDS: [SingleKind; 10] = [
-    SingleKind::Trigger,
-    SingleKind::Release,
-    SingleKind::Settings,
-    SingleKind::OtherSettings,
-    SingleKind::Reset,
-    SingleKind::Retrigger,
-    SingleKind::Legato,
-    SingleKind::Timing,
-    SingleKind::OtherTiming,
-    SingleKind::Fresh,
-];
-
 /// A reading, as a number: of settings the bits of their decay.
 #[derive(Clone, Copy, Debug, PartialEq, Eq)]
 pub enum Query {
@@ -136,12 +106,11 @@ pub enum Query {
     Idle = 3,
     Tail = 4,
     Lead = 5,
-    /// Of a bank alone, like the stride.
     Voices = 6,
     Stride = 7,
 }
 
-/// Every reading of a bank; the first six are those of the single envelope.
+/// Every reading.
 pub const QUERIES: [Query; 8] = [
     Query::Params,
     Query::Stage,
@@ -153,8 +122,8 @@ pub const QUERIES: [Query; 8] = [
     Query::Stride,
 ];
 
-/// How many of the readings the single envelope has.
-pub const SINGLE_QUERIES: usize = 6;
+/// The most voices of a bank.
+pub const VOICES: usize = 64;
 
 /// A fresh bank of so many voices, and new notes on them in turn.
 #[derive(Clone, Copy, Debug)]
@@ -162,13 +131,4 @@ pub struct Opening {
     pub sound: Sound,
     pub voices: usize,
     pub notes: u32,
-}
-
-/// On that bank so many calls of a kind, then so many blocks.
-#[derive(Clone, Copy, Debug)]
-pub struct Take {
-    pub opening: Opening,
-    pub kind: Kind,
-    pub calls: u32,
-    pub blocks: u32,
 }

@@ -1,0 +1,161 @@
+//! Passes over a bank on three sides, and the rows of what they take: over C,
+//! over the crate of hosts/rust, and of the Rust's own.
+//!
+//! The loops over the voices are in C for C, and in Rust for the others. A bank
+//! is opened, and has its notes, outside the time that is measured, where it is
+//! not that which is measured.
+
+use std::hint::black_box;
+use std::time::Instant;
+
+use compare::live::functions::LiveBank;
+use compare::measured::Measured;
+use compare::measured::asked::{Kind, Opening, Query, Sound};
+use compare::rust::envelope;
+
+use crate::medians;
+
+/// Nanoseconds over C, over the crate and of the Rust's own.
+pub type Three = [f64; 3];
+
+/// How often a call is made on one voice, on all, and a reading.
+const ON_ONE: u32 = 1 << 12;
+const ON_ALL: u32 = 1 << 8;
+const READ: u32 = 1 << 14;
+
+/// The levels of a row of blocks, and the most blocks.
+const LEVELS: usize = 1 << 21;
+const BLOCKS: usize = 1 << 14;
+
+/// A bent decay that outlasts every measurement.
+pub const BENT: Sound = Sound {
+    sample_rate: 48_000.0,
+    attack: 0.0,
+    decay: 600_000.0,
+    sustain: 0.25,
+};
+
+/// A straight attack that does.
+pub const STRAIGHT: Sound = Sound {
+    attack: 600_000.0,
+    ..BENT
+};
+
+/// What is measured.
+#[derive(Clone, Copy, Debug)]
+pub enum Call {
+    Open,
+    Of(Kind),
+    Read(Query),
+    /// A block of so many frames.
+    Block(usize),
+    /// All of a take: the opening, its notes, and a block of so many frames.
+    Take(usize),
+}
+
+impl Call {
+    /// How often it is made in a pass.
+    pub fn times(self, voices: usize) -> u32 {
+        match self {
+            Self::Open => ON_ALL,
+            Self::Of(kind) if kind.is_for_all() => ON_ALL,
+            Self::Of(_) => ON_ONE,
+            Self::Read(_) => READ,
+            Self::Block(frames) => {
+                (LEVELS / (frames * LiveBank::levels(voices))).min(BLOCKS) as u32
+            }
+            Self::Take(_) => 1,
+        }
+    }
+
+    /// The frames of its output, or of what is drawn after it.
+    fn frames(self) -> usize {
+        match self {
+            Self::Block(frames) | Self::Take(frames) => frames,
+            _ => 1,
+        }
+    }
+}
+
+/// A bank of so many voices, a note on each.
+pub fn sounding(sound: Sound, voices: usize) -> Opening {
+    Opening {
+        sound,
+        voices,
+        notes: voices as u32,
+    }
+}
+
+/// The median nanoseconds of one call beside the Rust's own bank.
+pub fn timed(opening: Opening, call: Call) -> Three {
+    timed_beside::<envelope::EnvelopeBank>(opening, call)
+}
+
+/// The median nanoseconds of one call, on all three sides in turns. They have to
+/// answer the same.
+pub fn timed_beside<R: Measured>(opening: Opening, call: Call) -> Three {
+    let pass = || {
+        [
+            once::<LiveBank>(opening, call),
+            once::<worfelli::EnvelopeBank>(opening, call),
+            once::<R>(opening, call),
+        ]
+    };
+    let [c, through_crate, rust] = pass().map(|(_, answer)| answer);
+    assert_eq!(c, rust, "{call:?} over C");
+    assert_eq!(through_crate, rust, "{call:?} over the crate");
+    medians(|| pass().map(|(nanoseconds, _)| nanoseconds))
+        .map(|nanoseconds| nanoseconds / f64::from(call.times(opening.voices)))
+}
+
+/// One pass on a bank of its own: its nanoseconds, and an answer by which the
+/// sides can be held against each other, the voices' levels of its last block
+/// among others.
+fn once<M: Measured>(opening: Opening, call: Call) -> (f64, Vec<u64>) {
+    let (opening, times) = (black_box(opening), call.times(opening.voices));
+    // Written before, so that its memory is there when the time begins.
+    let mut out = vec![2.0; call.frames() * M::levels(opening.voices)];
+    let (mut sum, mut fresh) = (0, None);
+    let mut measured = M::triggered(opening);
+    let start = Instant::now();
+    match black_box(call) {
+        Call::Open => measured.opens(opening, times),
+        Call::Of(kind) => measured.calls(opening.sound, kind, times),
+        Call::Read(query) => sum = measured.readings(query, times),
+        Call::Block(_) => measured.blocks(black_box(&mut out), times),
+        Call::Take(_) => {
+            let fresh = fresh.insert(M::triggered(opening));
+            fresh.blocks(black_box(&mut out), times);
+        }
+    }
+    let nanoseconds = start.elapsed().as_nanos() as f64;
+    if !matches!(call, Call::Block(_) | Call::Take(_)) {
+        measured.blocks(&mut out, 1);
+    }
+    let frames = out.chunks_exact(M::levels(opening.voices));
+    let levels = frames.flat_map(|frame| frame.iter().take(opening.voices));
+    let bits = levels.map(|level| level.to_bits().into());
+    (nanoseconds, bits.chain([black_box(sum)]).collect())
+}
+
+/// Prints the head of a table whose rows begin with what they are about, and
+/// end with `more`.
+pub fn head(about: &str, unit: &str, more: &str) {
+    let times = ["C", "Crate", "Rust"].map(|side| format!("{side}, {unit}"));
+    let times = times.join(" | ");
+    println!("\n| {about} | {times} | C / Rust | Crate / Rust |{more}");
+}
+
+/// Prints a row.
+pub fn row(about: &str, times: Three, digits: usize) {
+    println!("| {about} | {} |", figures(times, digits));
+}
+
+/// The figures of a row.
+pub fn figures([c, through_crate, rust]: Three, digits: usize) -> String {
+    format!(
+        "{c:.digits$} | {through_crate:.digits$} | {rust:.digits$} | {:.2} | {:.2}",
+        c / rust,
+        through_crate / rust
+    )
+}
