@@ -1,4 +1,4 @@
--- `level`: the definition's operations in their order.
+-- `level`: the product and the sum are the definition's; nothing is called.
 use mathlib.Core.Path.{refl}
 use Rattle.curve.specs.Segments.{level}
 use Rattle.curve.proofs.segments.Segment.level.Goals as goal
