@@ -1,4 +1,4 @@
--- What is told of a bank: its clock, and its readings as numbers.
+-- A bank's timing, and its readings as numbers: each is the number of what the definition replies, a refusal's included.
 use Rattle.std.proofs.Common.{◌≡◌, ℕ, ap, ◌∙◌, refl}
 use Rattle.std.specs.Prelude.{Result, Ok, Err}
 use Rattle.std.specs.Result.{IsErrAnd}

@@ -1,4 +1,4 @@
--- What is done over and over: of n turns i are done, and one more is.
+-- Step lemmas of the measuring loops: n - i steps of the definition are one step, and then n - (i + 1).
 use Rattle.std.proofs.Common.{◌≡◌, ℕ, suc, ◌+◌, ◌-◌, ◌<◌, List, length, ap, arith}
 use lib.Ieee.{Float, binary32, to_bits}
 use Rattle.settings.specs.declared.settings.EnvelopeParams.{EnvelopeParams}
