@@ -44,11 +44,11 @@ pub trait F32s: Copy + Add<Output = Self> + Mul<Output = Self> {
     /// How many lanes it holds.
     const LANES: usize;
 
-    /// The first `LANES` values of `from`, which has to hold that many.
-    fn load(from: &[f32]) -> Self;
+    /// The first `LANES` values of a slice, which has to hold that many.
+    fn load(values: &[f32]) -> Self;
 
-    /// Writes its lanes to the first `LANES` values of `to`, likewise.
-    fn store(self, to: &mut [f32]);
+    /// Puts them back at the start of a slice, likewise.
+    fn store(self, values: &mut [f32]);
 }
 
 /// A computation written once for any lanes.
@@ -58,10 +58,13 @@ pub trait Kernel {
     fn run<S: F32s>(self) -> Self::Output;
 }
 
-/// Runs `kernel` at `level`. It would come back as the error at a level that
-/// this machine lacks, but there is none.
-pub fn dispatch_at<K: Kernel>(level: Level, kernel: K) -> Result<K::Output, K> {
-    match level {
+/// Runs `kernel` at a level. It would come back as the error if this machine
+/// lacked that level, which it never does.
+pub fn dispatch_at<K>(at: Level, kernel: K) -> Result<K::Output, K>
+where
+    K: Kernel,
+{
+    match at {
         Level::Portable => Ok(kernel.run::<Four>()),
     }
 }
@@ -98,11 +101,11 @@ impl Mul for Four {
 impl F32s for Four {
     const LANES: usize = 4;
 
-    fn load(from: &[f32]) -> Self {
-        Self(std::array::from_fn(|lane| from[lane]))
+    fn load(values: &[f32]) -> Self {
+        Self(std::array::from_fn(|lane| values[lane]))
     }
 
-    fn store(self, to: &mut [f32]) {
-        to[..Self::LANES].copy_from_slice(&self.0);
+    fn store(self, values: &mut [f32]) {
+        values[..Self::LANES].copy_from_slice(&self.0);
     }
 }

@@ -1,4 +1,6 @@
--- What an accepted or a refused call tells: a voice that is named is there, and whole frames pass.
+-- What follows from the number that refuses a call, 0 if it is accepted: which of two values `if_accepted` gives; that a voice that an accepted call
+-- names is one of the bank's (`named`); that an output of whole frames is accepted, and passes them (`whole`, `block-frames`); and that an accepted
+-- fresh bank has at most 64 voices. By cases on the tests of the definitions.
 use mathlib.Core.Path.{◌≡◌, refl, subst}
 use mathlib.Core.Bool.{Bool, true, false, cond}
 use mathlib.Core.Logic.{◌≢◌}

@@ -1,4 +1,6 @@
--- From what a call did to the arrays to what the bank's definitions answer.
+-- A call's whole statement (`Answered`: its number, the bank after it, what it keeps of the arrays) from what its parts ensure. One law for a refused
+-- call, one for an accepted one, and one for a call that changes a single voice (`of_one`); and the same of a fresh bank (`Opened`). By cases on
+-- whether the number is 0.
 use mathlib.Core.Path.{◌≡◌, refl, sym, ap, ◌∙◌}
 use mathlib.Core.Bool.{Bool, true, false, cond}
 use mathlib.Core.Logic.{◌≢◌}

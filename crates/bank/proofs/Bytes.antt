@@ -1,4 +1,5 @@
--- Levels in bytes: four to a level, each by its place.
+-- The bytes of a list of levels: how many they are, and byte p of level q (`bytes-at`), so that an output can be compared with them place by place.
+-- By induction on the levels.
 use mathlib.Core.Path.{◌≡◌, refl, sym, ap, ◌∙◌}
 use mathlib.Core.List.{List, [], ◌∷◌, ◌++◌, append_assoc}
 use Prim.Native.Nat.{ℕ, zero, suc, ◌+◌, ◌*◌, ◌<◌}

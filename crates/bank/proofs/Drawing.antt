@@ -1,5 +1,9 @@
--- Runs, one after the other, are the frames of the definition, and what they drew are its rows. `Ran`: the arrays after some frames; `Shown`: the
--- output, in floats or in bytes.
+-- The invariant of `draw_frames` (`Going`), and that a run keeps it. `Ran` is a simulation relation between the arrays and the definition: after
+-- `done` frames each voice in the arrays is the definition's, the spare lanes are silent, and every other number is as it was. `Shown`: the first
+-- `done` rows of the output, in floats or in bytes, hold the levels of those frames, and what is past them is as it was. Both hold before the first
+-- frame, once the spare lanes are cleared (`going_none`). A run keeps them (`going_more`, the step lemma): it passes the end of no segment, so that a
+-- lane drawn in it has the levels of frame after frame (`lane-drawn`), and drawing, counting down and following together are that many frames of each
+-- voice (`run-whole`). After all frames the bank is the definition's (`ran-bank`).
 use mathlib.Core.Path.{◌≡◌, refl, sym, ap, ◌∙◌, subst}
 use mathlib.Core.List.{List, [], ◌∷◌, ◌++◌}
 use mathlib.Core.Logic.{◌⊎◌, inl, inr}

@@ -24,7 +24,7 @@ use Rattle.bank.specs.Banks.{Bank, size, voice, put, on_all, frame, frames, row,
 
 -- ---- voices
 
--- An element that there is does not depend on what stands past the end.
+-- An element of a list does not depend on what a reading past the end gives.
 get_d_any : {A : Type 0} (l : List A) (n : ℕ) (d e : A) → n < length l → get_or l n d ≡ get_or l n e
 get_d_any [] n d e h = absurd (not-suc-le-zero h)
 get_d_any (x ∷ xs) zero d e h = refl

@@ -1,4 +1,7 @@
--- The bank that the arrays hold, after voices were stored in them: one voice, each of them, or none.
+-- The bank that the arrays hold (`bank_of`) is equal to one whose timing, number of voices and voices are the arrays' (`held`). So a voice that is
+-- stored is put into the bank (`bank-stored`), and where each of the voices was changed the bank is (`spread_all`). `spread_more` is the step lemma
+-- of loops over voices: the first e are changed and every other number is as it was, then one more is changed. By cases on whether a voice is the one
+-- that was stored; all others are as before by its frame condition.
 use mathlib.Core.Path.{◌≡◌, refl, sym, ap, ◌∙◌, subst}
 use mathlib.Core.Bool.{Bool, true, false, cond}
 use mathlib.Core.List.{List}
@@ -44,7 +47,7 @@ pub timing_of_lem : (m : Arrays) → (bank_of m).timing ≡ timing_at m.bends
 unfolding bank_of
 timing_of_lem m = refl
 
--- It is the bank whose timing and voices stand there.
+-- It is equal to a bank whose timing, number of voices and voices are those in the arrays.
 pub held : (m : Arrays) (b : Bank) → timing_at m.bends ≡ b.timing → count_of m.codes ≡ size b
     → ((v : ℕ) → v < count_of m.codes → voice_at m v ≡ voice b v) → bank_of m ≡ b
 held m b t n h =
@@ -132,7 +135,7 @@ module _ (g : Voice → Voice) (m : Arrays) where
         beside = λ w i j. P.above w (omega (arith, i, e)) j;
       }
 
--- ---- what is held for all
+-- ---- what is stored for all voices
 
 -- Another timing.
 module _ (t : Timing) (m : Arrays) (k' : List Float) (T : TimingPut t m.bends k') where

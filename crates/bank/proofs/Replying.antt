@@ -1,4 +1,5 @@
--- What a reading of one voice replies: of a voice that there is, and of one that there is not.
+-- A reading of one voice replies what the bank's definition says: of a voice that there is, what is read of that voice in the arrays
+-- (`reading_present`); of one that there is not, refusal 2 (`reading_missing`). By the test for the voice, and since the arrays' voice is the bank's.
 use mathlib.Core.Path.{◌≡◌, sym, ap, ◌∙◌}
 use Prim.Native.Nat.{ℕ, ◌≤◌, ◌<◌}
 use native.Mathlib.Omega.{arith}

@@ -1,5 +1,7 @@
--- A run of each voice within its segment, and what it leaves of the arrays: the voices drawn, then counted down, then followed where they ended. A run
--- is what frame after frame does (`run-whole`).
+-- A run that passes no segment's end is so many frames of each voice (`run-whole`): only u and `left` change within the segment, and where the run
+-- reaches its end `advance` follows; by cases on whether the segment is timed and whether it ends. In the arrays a run is three changes of the first
+-- n voices that keep every other number (`Spread`): the voices drawn, then counted down (`less_spread`), then followed where their segments ended.
+-- `Following` is the invariant of the last of these: the voices before v have been followed, and v is the next that has ended.
 use mathlib.Core.Path.{◌≡◌, refl, sym, ap, ◌∙◌, subst}
 use mathlib.Core.Bool.{Bool, true, false, cond}
 use mathlib.Core.List.{List}

@@ -1,4 +1,6 @@
--- All frames have passed: the output holds the definition's rows, in floats or in bytes, and the bank is the definition's.
+-- From the invariant of `draw_frames` after all frames to the statements of `process` and `process_bytes`: the output holds the definition's rows, as
+-- floats (`floats-shown`) or as bytes with what is past them kept (`bytes-shown`), and the bank is the definition's after as many frames
+-- (`passed-bank`). Outputs are compared place by place: place j lies in row j / stride, at j % stride. A refused call leaves both as they were.
 use mathlib.Core.Path.{◌≡◌, refl, sym, ap, ◌∙◌, subst}
 use mathlib.Core.Bool.{cond}
 use mathlib.Core.List.{List, ◌++◌}

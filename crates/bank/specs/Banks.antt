@@ -35,7 +35,7 @@ size b = length b.voices
 abbrev pub known : Bank → Known
 known b = record { voices = size b }
 
--- Voice v. Past the last one an idle one stands, which no call reaches.
+-- Voice v. Past the last one it is an idle voice, which no call reaches.
 abbrev pub voice : Bank → ℕ → Voice
 voice b v = get_or b.voices v (Planning.new amp)
 

@@ -27,7 +27,7 @@ pub data Query : Type 0 where
   params stage level is_idle tail lead : ℕ → Query
   voices stride : Query
 
--- What is done with it. A process is told by the length of its output.
+-- What is done with it. A process is given by the length of its output.
 pub data Call : Type 0 where
   set_params : ℕ → EnvelopeParams → Call
   set_all_params : EnvelopeParams → Call

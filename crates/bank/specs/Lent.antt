@@ -14,7 +14,7 @@ pub record Kept (refusal : ℕ) (m m' : Arrays) : Type 0 where
   pub refused : refusal ≢ 0 → m' ≡ m
   pub beside : KeptFrom (count_of m.codes) m m'
 
--- The numbers of lane w are as they were, but for its columns, which hand out +0 for ever.
+-- The numbers of lane w are as they were, but for its columns, which are those of a constant +0.
 pub record Silenced (w : ℕ) (m m' : Arrays) : Type 0 where
   pub columns : Silent m'.floats w
   pub left : left_at m'.codes w ≡ left_at m.codes w

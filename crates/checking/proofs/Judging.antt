@@ -1,4 +1,6 @@
--- One record: what its tests come to.
+-- What one record makes of the check (`judged`): refused by its event's own number, refused by 11 since there is no room for its frames, or passed.
+-- By cases on the two tests. The code's test of the room divides where the definition multiplies, since a product might overflow; `found_full` and
+-- `found-room` show that it is the same test. A record that passes leaves at most 64 voices (`passed_few`).
 use mathlib.Core.Path.{◌≡◌, refl, sym, ap, ap₂, ◌∙◌, subst}
 use mathlib.Core.Bool.{Bool, true, false, cond}
 use Prim.Native.Nat.{ℕ, ◌+◌, ◌*◌, ◌/◌, ◌<◌, ◌≤◌, min}

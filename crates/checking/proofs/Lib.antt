@@ -1,3 +1,3 @@
--- Laws of the check.
+-- Laws of the check: one record, then record after record.
 pub mod Judging
 pub mod Passing

@@ -1,4 +1,7 @@
--- Record after record: the check's loop, and what holds of a list that passed.
+-- The check of a list, record after record (`checked_from`). At most 64 voices, and an output that holds the frames so far (`Held`): an invariant of
+-- it, by cases on a record's tests (`judged-held`) and induction on the records (`from-held`). `Left` is the invariant of the code's loop: what is
+-- left of the check, run from here, comes to what all of it comes to. A record that passes is past the one before it (`past`), so that a list has
+-- fewer records than bytes, and one that is accepted was read to its last byte (`accepted-whole`).
 use mathlib.Core.Path.{◌≡◌, refl, sym, ap, ◌∙◌, subst}
 use mathlib.Core.Bool.{Bool, true, false, cond}
 use mathlib.Core.List.{List}
@@ -108,7 +111,7 @@ past l room c (Reading.Record v next) e y =
     let b = read_next l c.at v next e in
     (omega (arith, k, b), omega (arith, k, b))
 
--- From q on as many records as there are turns for come to what all from p on come to.
+-- The check from q on, with steps enough for the bytes left, comes to what the check from p on comes to.
 pub record Left (l : List ℕ) (room : ℕ) (p q : Passed) : Type 0 where
   pub held : Held room (so_far q)
   pub turns : ℕ

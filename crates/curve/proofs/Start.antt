@@ -1,4 +1,6 @@
--- The time at which a curve has made no progress is 0, for every bend: no bend is over 64, so E(-k) is a number, and a zero stays one to the end.
+-- `time_at` of a zero is a zero, for every bend: a curve that has made no progress is at its beginning. A bend is at most 64 in size, so that E(-k)
+-- is a number; then the zero stays one through the product, L, the quotient, whose divisor is no zero, and the clamp. By cases on whether the bend is
+-- 0.
 use mathlib.Core.Path.{◌≡◌, refl}
 use mathlib.Core.Bool.{Bool, true, false, cond}
 use lib.Dec.{lit≤}

@@ -1,4 +1,5 @@
--- u, sample by sample.
+-- u after m + n samples is u after n, from u after m on; so one sample more is one step more (`u_next`, which loops that draw use). By induction on
+-- m.
 use mathlib.Core.Path.{◌≡◌, sym}
 use Prim.Native.Nat.{ℕ, zero, suc, ◌+◌}
 use native.Mathlib.Nat.{zero-add, suc-add}

@@ -1,4 +1,5 @@
--- |x| by the library is the definition's (`abs_is`); and |x| against a positive bound is a test by the sign of x (`abs_negative`, `abs-other`).
+-- |x| by the library is the definition's (`abs_is`); and |x| against a positive bound is a test by the sign of x (`abs_negative`, `abs-other`). By
+-- cases on x.
 use mathlib.Core.Path.{◌≡◌, refl}
 use mathlib.Core.Bool.{true, false, true≢false, false≢true}
 use Prim.Native.Nat.{ℕ, ◌+◌, ◌*◌, ◌≤◌, ◌<◌}

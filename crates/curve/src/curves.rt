@@ -4,12 +4,13 @@
 // s(x) = (e^(-k x) - 1) / (e^(-k) - 1), and s(x) = x where k is 0. With a positive bend the first steps
 // are the largest, with a negative one the last.
 //
-// On a curve of n samples each sample takes 1 + u times r = e^(-k / n), or adds 1 to u where the segment
-// is straight; u × scale is the way gone since the segment began. So u begins at 0, and its roundings are
-// small beside that way: 1 + u in its place would lose the small steps of a slow curve in the last places
-// of a number near 1. The levels at both ends of a segment are computed from the curve in binary64, and
-// scale is made for the r that binary32 holds, so that only binary32's roundings take a segment off its
-// curve. They end with it: the next one begins at its own computed level.
+// On a curve of n samples each sample takes 1 + u times r = e^(-k / n), which for u is u × r + d with
+// d = r - 1, or adds 1 to u where the segment is straight; u × scale is the way gone since the segment
+// began. So u begins at 0, and its roundings are small beside that way: 1 + u in its place would lose the
+// small steps of a slow curve in the last places of a number near 1. The levels at both ends of a segment
+// are computed from the curve in binary64, and scale is made for the r that binary32 holds, so that only
+// the roundings of binary32 take a segment off its curve. Those would add up over a long stage; so a
+// segment ends after 16,384 samples at most, and the next one begins at its own computed level.
 ghost use Rattle.std.specs.Prelude.{◌≡◌};
 ghost use Rattle.curve.specs.Curves as Curves;
 
@@ -23,7 +24,7 @@ pub const MAX_BEND: f64 = 12.0;
 const CHORD_BELOW: f64 = 1e-3;
 
 // A segment has at most so many samples, a third of a second at 48 kHz, and u so many rounded steps. In a
-// straight one u is a count, and exact.
+// straight one u is a count far below 2^24, and exact.
 pub const MAX_SEGMENT: u32 = 16384;
 
 // The bend that a curve control asks for: none at 0.5.
@@ -57,7 +58,8 @@ pub fn time_at(k: f64, v: f64) -> f64
     }
 }
 
-// The curve's level p samples in, of n.
+// The curve's level p samples in, of n; both counts are exact in binary64, since under document 01's limits
+// they are below 2^53.
 // No closure of `segment`, whose captures would go through memory: it took 1 % more of planning.
 fn at(from: f64, span: f64, k: f64, n: f64, p: u64) -> f64
     ensures { result ≡ Curves.at from span k n p }
@@ -96,9 +98,10 @@ pub fn segment(from: f32, to: f32, k: f64, total: u64, pos: u64, len: u32) -> Se
             left: len,
         };
     }
-    // What u has come to when the segment is over. r - 1 is exact for an r of 1/2 or more: up to 2 by
-    // Sterbenz's lemma, and above since 1 is a whole number of r's last places. A smaller r, for which
-    // it may be rounded, comes with curves of less than 18 samples alone.
+    // What u has come to when the segment is over: 1 + u is r to the power of the samples gone. r - 1 is
+    // exact for an r from 1/2 on: up to 2 by Sterbenz's lemma, and above, where r is at most e^12, since 1
+    // is a whole number of r's last places. A smaller r, for which it may be rounded, comes with curves of
+    // less than 18 samples alone.
     let moved = numbers::powi(numbers::widen(r), len) - 1.0;
     Segment {
         u: 0.0,

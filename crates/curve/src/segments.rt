@@ -1,9 +1,11 @@
-// What draws the next samples: a level is u × scale + base, then u becomes u × r + d. Whatever draws calls
-// `level_from` and `next_u` for them; a product and a sum are each rounded, never fused.
+// A part of a stage as it is drawn: u × scale + base gives a sample's level, and u × r + d the u of the
+// sample after it. A level that stays, a straight line and a curve differ in their numbers alone, so that
+// lanes of all kinds are drawn side by side by the same operations.
+// Whatever draws calls `level_from` and `next_u` for them: a product and a sum are each rounded, never fused.
 ghost use Rattle.std.specs.Prelude.{◌≡◌};
 ghost use Rattle.curve.specs.Segments as Segments;
 
-// `left` of a level that holds until something happens (sustain and idle).
+// `left` in Idle and Sustain, which only a call ends: no segment has so many samples.
 pub const UNTIMED: u32 = 0xffff_ffff;
 
 #[derive(Clone, Copy)]
@@ -13,12 +15,13 @@ pub struct Segment {
     pub d: f32,
     pub scale: f32,
     pub base: f32,
-    // Samples until the segment ends, or UNTIMED.
+    // How many of its samples are still to be drawn; UNTIMED if no count ends it.
     pub left: u32,
 }
 
 impl Segment {
-    // `level`, for `left` samples.
+    // A level that stays: with a scale of 0 and a u of 0 the sum is `level` in every bit, but for a -0,
+    // which becomes +0.
     pub fn constant(level: f32, left: u32) -> Self
         ensures { result ≡ Segments.constant level left }
     {
@@ -32,7 +35,7 @@ impl Segment {
         }
     }
 
-    // The level that it hands out next.
+    // The next sample's level.
     pub fn level(self) -> f32
         ensures { result ≡ Segments.level self }
     {
@@ -54,7 +57,8 @@ pub fn next_u(u: f32, r: f32, d: f32) -> f32
     u * r + d
 }
 
-// How many of the next `most` samples a segment with `left` left draws.
+// How many of the next `most` samples a segment with `left` left draws. A timed one with 0 left, which calls
+// from a fresh voice on never leave, draws one, so that every run has a sample.
 pub fn run_length(left: u32, most: usize) -> usize
     ensures length { result ≡ Segments.run_length left most }
     ensures inside { Segments.Inside result left }

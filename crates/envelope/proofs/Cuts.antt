@@ -1,4 +1,5 @@
--- Frames are single frames, however they are cut into blocks.
+-- m + n frames are m frames and then n, for the envelope after them and for the levels that they hand out: so the cut into blocks makes no
+-- difference. By induction on m.
 use mathlib.Core.Path.{◌≡◌, ap}
 use mathlib.Core.List.{List, ◌∷◌, ◌++◌}
 use Prim.Native.Nat.{ℕ, zero, suc, ◌+◌}

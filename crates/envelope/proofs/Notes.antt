@@ -1,4 +1,5 @@
--- How long the stages last after a trigger that starts them over, followed only by frames, and what lead then says.
+-- How long the stages last after a trigger that starts them over, followed only by frames, and what lead then says. Both are laws of the voice, since
+-- a frame of the envelope is one of its voice; a new note's attack begins at place 0 (`new-note-place`).
 use mathlib.Core.Path.{◌≡◌, refl, ap, ◌∙◌}
 use mathlib.Core.Bool.{false}
 use Prim.Native.Nat.{ℕ, ◌-◌}

@@ -1,5 +1,6 @@
--- What holds of every envelope that calls from a fresh one left: its times and rate are within the limits, and its voice is sound. So no guard is
--- ever met, and each definition is literally the Rust's there.
+-- `Reachable`, an invariant of the calls: the times and the rate are within the limits, and the voice is sound. A fresh envelope has it, and each
+-- call, accepted or refused, keeps it (`after-reachable`, by cases on the call); so it holds after every list of calls, by induction. There no sum
+-- saturates and no difference stops at 0 (`reachable-unguarded`), so that each definition is literally the Rust's; and lead is exact.
 use mathlib.Core.Path.{◌≡◌, refl, sym, ap, ◌∙◌}
 use mathlib.Core.Bool.{Bool, true, false, cond, true≢false}
 use mathlib.Core.List.{List, [], ◌∷◌}
@@ -108,7 +109,7 @@ all_reachable (c ∷ cs) e r = all_reachable cs (after e c) (after-reachable e c
 pub reachable : (p : EnvelopeParams) (t : Timing) (cs : List Call) → Reachable (after_all (fresh p t).envelope cs)
 reachable p t cs = all_reachable cs (fresh p t).envelope (fresh-reachable p t)
 
--- In a stage that takes time no guard is met.
+-- In a stage that takes time no sum saturates and no difference stops at 0.
 pub reachable-unguarded : (e : Envelope) → Reachable e → holds (stage e) ≡ false → Unguarded e.voice
 reachable-unguarded e r h = go r.sound
   where

@@ -1,5 +1,5 @@
 -- A run of frames within one segment: its levels and the voice after it are those of frame after frame (`level-within`, `run_ends`), since only u and
--- left step there; and the levels of frames as a list, by its elements.
+-- `left` change there; by cases on whether the segment is timed. And the levels of frames as a list, by its elements, by induction on the frames.
 use mathlib.Core.Path.{◌≡◌, refl, sym, ap, ◌∙◌}
 use mathlib.Core.Logic.{◌≢◌}
 use mathlib.Core.Bool.{Bool, true, false}

@@ -22,7 +22,7 @@ pub record Answer : Type 0 where
   pub refusal : ℕ
   pub envelope : Envelope
 
--- What a Result says as an answer, beside whose refusal stands the envelope `refused`.
+-- A Result as an answer: beside a refusal it has the envelope `refused`.
 abbrev pub answered : Envelope → Result Envelope Refusal → Answer
 answered refused (Ok e) = record { refusal = 0; envelope = e }
 answered refused (Err r) = record { refusal = Refusals.number r; envelope = refused }

@@ -59,7 +59,7 @@ impl Envelope {
         }
     }
 
-    // Writes its next out.len() levels.
+    // A block: fills `out` with the levels of as many frames, run by run.
     #[tactic(auto, using(crate::proofs::Runs::run_bounds))]
     pub fn after_process(self, out: &mut [f32]) -> Self
         ensures written { out.new ≡ Envelopes.levels (length out.old) self }

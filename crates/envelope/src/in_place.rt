@@ -1,7 +1,7 @@
-// The envelope lent, and changed in place: mod.rs's methods under their names and in their order, then
-// the readings that document 01 adds. Each takes the envelope from behind the reference, makes the
-// call by value, which says what it does, and puts the envelope after it back. Each calls another: they are no
-// twins in a type.
+// The envelope lent, and changed in place: mod.rs's methods under their names and in their order, then the
+// readings that document 01 adds. Each reads the envelope through the reference, makes the call by value,
+// whose statement says what it does, and stores the envelope after it. Each calls a method of its own, so one
+// generic function would not replace them.
 ghost use Rattle.std.specs.Prelude.{◌≡◌, length};
 ghost use Rattle.settings.specs.Refusals as Refusals;
 ghost use Rattle.envelope.specs.Envelopes as Envelopes;

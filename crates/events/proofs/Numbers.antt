@@ -1,4 +1,5 @@
--- Numbers of two, four and eight bytes, as std adds them up.
+-- Numbers of two, four and eight bytes: the sum that std's conversions are stated by is the definition's, which recurses over the bytes. By linear
+-- arithmetic.
 use mathlib.Core.Path.{◌≡◌}
 use mathlib.Core.List.{List}
 use Prim.Native.Nat.{ℕ, ◌+◌, ◌*◌}

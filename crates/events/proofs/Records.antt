@@ -1,5 +1,5 @@
--- What a reading tells. An accepted record is an open where it is the first, and nowhere else, and the next byte is past its head and within the
--- list; a refused one has a number from 6 on.
+-- What a reading says. An accepted record is an open where it is the first, and nowhere else, and the next byte is past its head and within the list;
+-- a refused one has a number from 6 on. By cases on the tests of the definition, in their order.
 use mathlib.Core.Path.{◌≡◌, refl, sym}
 use mathlib.Core.Bool.{Bool, true, false, cond, not, beq}
 use mathlib.Core.List.{List}

@@ -1,4 +1,4 @@
--- What stands in an event list, byte by byte: document 01, 'The event list', and the numbers 6 to 10 of "No's, by call".
+-- What an event list holds, byte by byte: document 01, 'The event list', and the numbers 6 to 10 of "No's, by call".
 use Rattle.std.specs.Prelude.{ℕ, zero, suc, ◌+◌, Bool, true, false, cond, not, ◌&&◌, List, [], ◌∷◌, ltb, eqb, length, get_or, Float, Option, None, Some, Result, Ok, Err}
 use Rattle.std.specs.Bool.{beq}
 use Rattle.std.specs.Float.{binary32, binary64}

@@ -1,5 +1,5 @@
--- A list filled from a to e, all else kept: nothing yet, an element more (`filled_more`, the step lemma of loops that fill a list), and a part more
--- (`filled_on`).
+-- A list that is filled from a to e and is otherwise as it was (`Filled`): nothing filled yet, one element more (`filled_more`, the step lemma of
+-- loops that fill a list), and a part more (`filled_on`). By cases on whether a place is before the new part or in it.
 use mathlib.Core.Path.{◌≡◌, refl, ◌∙◌, subst}
 use mathlib.Core.Logic.{◌⊎◌, inl, inr}
 use mathlib.Core.Bool.{Bool, true, false}

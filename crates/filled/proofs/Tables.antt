@@ -1,4 +1,4 @@
--- A list by its elements: its length, an element of it, and when two are equal.
+-- A list by its elements: its length, an element of it, and when two are equal. By induction on the length.
 use mathlib.Core.Path.{◌≡◌, refl, ap}
 use Prim.Native.Nat.{ℕ, zero, suc, ◌<◌}
 use native.Mathlib.Omega.{arith}

@@ -1,4 +1,6 @@
--- A bank that stands by a reading replies to each call as the reading says.
+-- A bank that `Stands` relates to the histories of its voices replies to each call as they say: a refusal by the same number, a reading of the same
+-- envelope, a process with the rows of the envelopes' levels (`rows-due`, by induction on the rows). By cases on the call; of a list of calls by
+-- induction, since each call keeps the relation (`call-stands`).
 use mathlib.Core.Path.{◌≡◌, refl, ap, ap₂, ◌∙◌, subst}
 use mathlib.Core.Bool.{Bool, true, false, cond}
 use mathlib.Core.List.{List, [], ◌∷◌, ◌++◌}

@@ -1,4 +1,6 @@
--- A block anywhere in a list: it passes its frames, and may be cut in two.
+-- A block of a + c frames anywhere in a list of calls, and the same frames in two blocks: the same bank, histories, replies and levels (`cut-block`).
+-- An accepted block is so many frames (`block-frames`, `block_read`), frames and their rows add up (`frames-add`, `rows-add`), and a list is run part
+-- by part (`run-append`).
 use mathlib.Core.Path.{◌≡◌, sym, ap, ap₂, ◌∙◌, subst, fun_ext}
 use mathlib.Core.List.{List, [], ◌∷◌, ◌++◌, append_assoc}
 use Prim.Native.Nat.{ℕ, ◌+◌, ◌*◌}

@@ -1,4 +1,6 @@
--- Demand 3, put together.
+-- Demand 3, put together from the files before this one. One list: each voice is the envelope of its history (`stands`), and stage, level and replies
+-- follow. Two lists: voices of the same history are the same envelope. A note in a bank: its stage is that of the history, whose stages last as
+-- `note-lengths` says.
 use mathlib.Core.Path.{◌≡◌, refl, sym, ap, ◌∙◌}
 use mathlib.Core.Bool.{false}
 use mathlib.Core.Logic.{◌≢◌}

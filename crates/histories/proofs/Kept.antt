@@ -1,5 +1,5 @@
 -- An accepted call moves each voice of the bank as its effect moves the voice's history: `kept`, a line for each call, over a law for each kind of
--- change: none, one voice, all voices, frames.
+-- change: none, one voice, all voices, frames (by induction on them). So a call keeps the simulation relation between a bank and its histories.
 use mathlib.Core.Path.{◌≡◌, refl, ap, ◌∙◌}
 use mathlib.Core.Bool.{Bool, true, false, cond}
 use mathlib.Core.List.{List, [], ◌∷◌}
@@ -36,7 +36,7 @@ pub record Kept (b : Bank) (x : ℕ → Effect) (k : Known) (b' : Bank) : Type 0
   pub live : (w : ℕ) → Live (size b) (x w)
   pub at : (w : ℕ) → w < size b → envelope b' w ≡ acted (envelope b) w (x w)
 
--- Banks of as many voices are known alike.
+-- Of banks of as many voices the same is known.
 pub as_many : {m n : ℕ} → m ≡ n → ◌≡◌ {A = Known} (record { voices = m }) (record { voices = n })
 as_many e = ap {B = Known} (λ (n : ℕ). record { voices = n }) e
 

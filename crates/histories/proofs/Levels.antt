@@ -1,4 +1,6 @@
--- What a process writes after a list of calls: the levels of the histories before it.
+-- What a process writes after a list of calls (`drawn-levels`): level v of row k is that of voice v's history with k frames more, a spare lane's is
+-- +0, and refused it writes nothing. An accepted one writes the bank's rows (`rows_at`), and after k frames each voice is the envelope of that longer
+-- history (`later`).
 use mathlib.Core.Path.{◌≡◌, refl, sym, ap, ◌∙◌, subst}
 use mathlib.Core.Logic.{◌≢◌}
 use mathlib.Core.Bool.{Bool, true, false, cond}

@@ -1,4 +1,4 @@
--- The proof of the theorem, each file on those before it.
+-- The proof of demand 3 and of the bench table, each file on those before it.
 pub mod Lists
 pub mod Kept
 pub mod Stands

@@ -1,5 +1,5 @@
--- What an accepted call enters is within the limits. So the envelope of each voice's history is one that calls on a single envelope left, and what is
--- proved of those holds of it: lead is exact, and no guard is met.
+-- What an accepted call enters is within the limits: by cases on the call, and by induction on the list. So the envelope of each voice's history is
+-- one that calls on a single envelope leave, and what is proved of those (`Reachable`) holds of it: lead is exact, and no sum saturates.
 use mathlib.Core.Path.{◌≡◌, refl, sym, ap, ◌∙◌, subst}
 use mathlib.Core.Bool.{Bool, true, false, cond}
 use mathlib.Core.List.{List, [], ◌∷◌, ◌++◌}

@@ -1,4 +1,4 @@
--- A list run in two parts.
+-- A list is run by running its first part and then the rest. By induction on the first part.
 use mathlib.Core.Path.{◌≡◌, refl}
 use mathlib.Core.List.{List, [], ◌∷◌, ◌++◌}
 use Rattle.histories.specs.Demand.{run}

@@ -1,4 +1,5 @@
--- An envelope holds the last settings and timing that its history entered; so the stages after a note are counted by those.
+-- An envelope holds the last settings and timing that its history entered, by cases on an entry and induction on the history; so the stages after a
+-- note are counted by those.
 use mathlib.Core.Path.{◌≡◌, refl, ap, ap₂, ◌∙◌}
 use mathlib.Core.Bool.{false}
 use mathlib.Core.List.{List, [], ◌∷◌, ◌++◌}

@@ -1,5 +1,6 @@
--- `Stands b r`: each voice of the bank b, with the bank's timing, is the envelope of its history in r. A fresh bank stands so, and each call keeps
--- that.
+-- `Stands b r`, the simulation relation between a bank b and what was read of its calls, r: the same is known of both, and each voice of b, with the
+-- bank's timing, is the envelope of its history in r. It holds of a fresh bank (`fresh-stands`), and a call keeps it (`call-stands`, the step lemma:
+-- an accepted call by `kept`, and a refused one changes neither side). So it holds after every list of calls (`stands`), by induction.
 use mathlib.Core.Path.{◌≡◌, refl, sym, ap, ◌∙◌, subst}
 use mathlib.Core.List.{List, [], ◌∷◌}
 use Prim.Native.Nat.{ℕ, zero, suc, ◌<◌}

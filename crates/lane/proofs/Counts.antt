@@ -1,4 +1,5 @@
--- How long a stage can be: below 2^64 samples by any settings, and at most 659,706,976,665,600 under document 01's limits.
+-- How long a stage can be: below 2^64 samples by any settings, and at most 659,706,976,665,600 under document 01's limits (`samples_le`). By cases on
+-- the stage.
 use mathlib.Core.Path.{◌≡◌, refl}
 use mathlib.Core.Bool.{Bool, true, false, ◌||◌, true≢false}
 use Prim.Native.Nat.{ℕ, ◌*◌, ◌≤◌, min}
@@ -15,7 +16,7 @@ use Rattle.settings.specs.declared.stages.Stage.TheVariants.{Idle, Delay, Attack
 use Rattle.settings.specs.Refusals.{time_over, rate_over}
 use Rattle.lane.specs.Planning.{spec}
 
--- The largest u64, at which the definitions hold a sum.
+-- The largest u64, at which the definitions' sums saturate.
 abbrev pub largest : ℕ
 largest = 18446744073709551615
 

@@ -1,4 +1,5 @@
--- A stage that is entered lasts its count less its place, and then the next is entered; one that has nothing left from its place on is skipped.
+-- A stage that is entered lasts its count less its place, and then the next is entered (`Passes`); one that has nothing left from its place on is
+-- skipped, and so lasts 0 frames. By cases on whether samples are left from the place on; then frame by frame (`stays`), and the last one (`ends`).
 use mathlib.Core.Path.{◌≡◌, refl, sym, ap, ap₂, ◌∙◌, subst}
 use mathlib.Core.Bool.{Bool, true, false}
 use Prim.Native.Nat.{ℕ, ◌+◌, ◌-◌, ◌≤◌, ◌<◌}

@@ -1,4 +1,6 @@
--- The stages from one on, a stage at a time: the one to enter, which holds or has samples left from its place on, and how long they last.
+-- The search for the stage to enter and the sum of the stages' lengths, one stage at a time: an untimed stage ends both, a timed one with samples
+-- left from its place on ends the search, and else both go on from the next stage. These are the step lemmas of `find` and `stages_last`; by cases on
+-- the stage. After a timed stage one timed stage less is left (`timed-next`), which is the measure of both.
 use mathlib.Core.Path.{◌≡◌, refl}
 use mathlib.Core.Bool.{true, false, true≢false, false≢true}
 use Prim.Native.Nat.{suc, ◌+◌, ◌≤◌, ◌<◌}

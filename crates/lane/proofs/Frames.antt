@@ -1,4 +1,5 @@
--- n frames however they are cut, and frames within one segment: while samples are left only u and left move, and `advance` follows the last one.
+-- n frames however they are cut, and frames within one segment: while samples are left only u and `left` change, and `advance` follows the last one.
+-- By induction on the frames.
 use mathlib.Core.Path.{◌≡◌, refl, ap, ◌∙◌}
 use Prim.Native.Nat.{ℕ, zero, suc, ◌+◌, ◌-◌, ◌≤◌, ◌<◌}
 use native.Mathlib.Omega.{arith}

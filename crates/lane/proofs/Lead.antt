@@ -1,5 +1,6 @@
--- Lead is exact: were only frames to follow, a sound voice with Sustain ahead is in Sustain after so many frames, and not before. After a trigger
--- that starts the stages over, lead is what is left of them.
+-- Lead is exact: were only frames to follow, a sound voice with Sustain ahead is in Sustain after so many frames, and not before. The rest of the
+-- present stage and the lengths of those to come add up, stage by stage (`until_add`), and under the limits their sum does not saturate
+-- (`lead_plain`). After a trigger that starts the stages over, lead is what is left of them.
 use mathlib.Core.Path.{◌≡◌, refl, sym, ap, ◌∙◌}
 use mathlib.Core.Bool.{Bool, true, false, cond, true≢false, false≢true}
 use mathlib.Core.Logic.{◌≢◌}
@@ -72,7 +73,7 @@ takes_time Decay a = refl
 takes_time Sustain a = absurd (false≢true a)
 takes_time Release a = absurd (false≢true a)
 
--- The sum that `lead` holds at the largest u64.
+-- The sum that `lead` saturates at the largest u64.
 abbrev pub lead_sum : Timing → Voice → ℕ
 lead_sum t v = let s = next v.lane.stage in rest v + last_from (timed_stages s) v.lane.params t s v.lane.to
 
@@ -108,7 +109,7 @@ lead_sum_exact B large t v i a =
     until_add t v v.lane.stage (rest v) _ (takes_time v.lane.stage a) (λ k h. (stays B large t k v q h).stage)
     (until_next t v.lane.params v.lane.stage a v.lane.to (frames (rest v) t v) (runs-out B large t v q))
 
--- ---- no sum is held
+-- ---- no sum saturates
 
 last_from_le : (B : ℕ) (p : EnvelopeParams) (t : Timing) → Counted B p t → (n : ℕ) (s : Stage) (ℓ : Float) → last_from n p t s ℓ ≤ n * B
 unfolding last_from lasts

@@ -1,4 +1,5 @@
--- Were only frames to follow: after a trigger that starts the stages over, each stage stands where `scheduled` says.
+-- Were only frames to follow: k frames after a trigger that starts the stages over the stage is the one that `scheduled` says. Each stage is entered
+-- where the one before it ends and lasts its count less its place (`passes`); by cases, stage by stage, on whether k is before its end.
 use mathlib.Core.Path.{◌≡◌, refl}
 use mathlib.Core.Bool.{Bool, true, false, cond}
 use Prim.Native.Nat.{ℕ, ◌+◌, ◌-◌, ◌≤◌, ◌<◌}

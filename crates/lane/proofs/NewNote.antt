@@ -1,4 +1,6 @@
--- A new note's attack begins at the start level, so it joins its curve at place 0.
+-- A new note's attack begins at the start level, so it joins its curve at place 0: its progress there is 0 / (1 - start), a zero, since 1 - start is
+-- no zero for a start below 1; without progress the curve is at its beginning (`time_at_zero`), and a zero times the count rounds to 0. By cases on
+-- the tests of `join_attack`.
 use mathlib.Core.Path.{◌≡◌, refl}
 use mathlib.Core.Bool.{Bool, true, false, ◌||◌, cond}
 use Prim.Native.Nat.{ℕ, ◌*◌, ◌≤◌}

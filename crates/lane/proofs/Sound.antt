@@ -1,4 +1,6 @@
--- What every voice keeps that calls from a fresh one left: it holds, untimed, or it is timed.
+-- `Sound`, an invariant of a voice's calls and frames: the stage and its segment are untimed, or the stage takes time and the voice is `Timed`. A
+-- fresh voice has it, entering a stage gives it whatever the voice was (`enter-sound`), and each call and each frame keeps it: by cases on the stage
+-- and on the tests of the definition. Calls that do not set them leave the settings as they are, so the bound on counts stays too.
 use mathlib.Core.Path.{◌≡◌, refl, sym, subst}
 use mathlib.Core.Bool.{Bool, true, false, cond}
 use Prim.Native.Nat.{ℕ, zero, suc, ◌-◌, ◌≤◌, ◌<◌}

@@ -1,4 +1,7 @@
--- A voice in a stage that takes time: how its counts stand to one another, that no guard is met on it, and its frames until the next stage.
+-- A voice in a stage that takes time. `Timed`: some samples are left of its segment, which lies in its curve, which is no longer than its stage,
+-- which has at most B samples. So no sum saturates and no difference stops at 0 (`unguarded`, by linear arithmetic). While more than one sample is
+-- left of the stage a frame keeps `Timed` (`goes_on`: within the segment, or into the curve's next one); with one left the next stage is entered
+-- (`ends`). k frames by induction (`stays`).
 use mathlib.Core.Path.{◌≡◌, refl, ap, ◌∙◌}
 use mathlib.Core.Bool.{Bool, true, false, cond}
 use mathlib.Core.Logic.{◌≢◌}
@@ -31,7 +34,7 @@ pub record Timed (B : ℕ) (v : Voice) : Type 0 where
   pub in_stage : v.lane.curve_total ≤ v.lane.spec.total
   pub counts : v.lane.spec.total ≤ B
 
--- The definitions are then literally the Rust's: no sum is held at the largest u64, and no difference falls below 0.
+-- The definitions are then literally the Rust's: no sum saturates at the largest u64, and no difference stops at 0.
 pub record Unguarded (v : Voice) : Type 0 where
   pub some_left : 1 ≤ v.seg.left
   pub some_curve : v.lane.pos < v.lane.curve_total

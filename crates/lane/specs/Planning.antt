@@ -43,7 +43,7 @@ new p =
       seg = constant end untimed;
     }
 
--- A stage as the settings set it: its count, target and bend. `level` is what a delay holds.
+-- A stage by the settings: its count, target and bend. `level` is where a delay stays.
 unfoldable pub spec : EnvelopeParams → Stage → Timing → Float → Spec
 spec p Idle t level = record { total = 0; to = unit p.end; k = Constants.zero }
 spec p Delay t level = record { total = samples t p.delay p.unit; to = level; k = Constants.zero }
@@ -58,7 +58,7 @@ unfoldable pub same : Spec → Spec → Bool
 same a b = eqb a.total b.total && eq a.to b.to && eq a.k b.k
 
 -- Where an attack that begins at a level joins its curve: the curve's start level, and its place, which document 01 defines as the sample of the
--- curve, from 0, that it begins with. Below the start level, or with a curve that does not rise, it is the whole attack from here.
+-- curve, from 0, that it begins with. Below the start level, or where that is 1, the curve begins at the level itself, and none of it is left out.
 unfoldable pub join_attack : EnvelopeParams → Float → Spec → Joined
 join_attack p level sp =
     let start = unit p.start in
@@ -67,7 +67,7 @@ join_attack p level sp =
     (cond (le one level) (record { from = level; pos = sp.total })
     (record { from = start; pos = round_u64 (x ⊗ whole sp.total) }))
 
--- Where a stage that begins at a level stands on its curve: only an attack joins one.
+-- How a stage begins at a level: only an attack can begin inside its curve.
 unfoldable pub join : EnvelopeParams → Stage → Float → Spec → Joined
 join p Idle level sp = record { from = level; pos = 0 }
 join p Delay level sp = record { from = level; pos = 0 }
@@ -77,7 +77,7 @@ join p Decay level sp = record { from = level; pos = 0 }
 join p Sustain level sp = record { from = level; pos = 0 }
 join p Release level sp = record { from = level; pos = 0 }
 
--- The curve's next segment, at pos: at most 16,384 samples.
+-- The part of the curve from pos on that is drawn next: at most 16,384 samples.
 unfoldable pub start_segment : Lane → Voice
 start_segment l =
     let len = min (l.curve_total - l.pos) max_segment in
@@ -97,7 +97,7 @@ start_segment l =
       seg = segment l.from l.to l.k l.curve_total l.pos len;
     }
 
--- The stage that is found, from s on: one that holds, or that has samples left from its place on. n stages may be skipped.
+-- The stage that is found, from s on: an untimed one, or one that has samples left from its place on. n stages may be skipped.
 unfoldable pub find_from : ℕ → EnvelopeParams → Timing → Stage → Float → Entered
 find_from zero p t s level = let sp = spec p s t level in record { stage = s; spec = sp; joined = record { from = sp.to; pos = 0 } }
 find_from (suc n) p t s level =
@@ -108,7 +108,7 @@ find_from (suc n) p t s level =
 unfoldable pub find : EnvelopeParams → Timing → Stage → Float → Entered
 find p t s level = find_from (timed_stages s) p t s level
 
--- A stage that holds. The plan of the last curve stays as it was; nothing reads it.
+-- An untimed stage. The plan of the last curve stays as it was; nothing reads it.
 unfoldable pub hold : Lane → Stage → Spec → Voice
 hold l s sp =
     record {

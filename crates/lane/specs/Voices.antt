@@ -43,11 +43,11 @@ note_level Legato v = restart_level v
 unfoldable pub trigger : Timing → Trigger → Voice → Voice
 trigger t x v = cond (leaves_alone x v) v (enter v.lane t Delay (note_level x v))
 
--- The note ends: release from the current level.
+-- The note's end: Release begins at the level that the voice has, if it is not in Release or Idle.
 unfoldable pub release : Timing → Voice → Voice
 release t v = cond (is_released v.lane.stage) v (enter v.lane t Release (level v.seg))
 
--- Goes idle at once, at the end level.
+-- Idle, with no release before it. The level that is entered with is not read: Idle has the end level.
 unfoldable pub reset : Timing → Voice → Voice
 reset t v = enter v.lane t Idle Constants.zero
 
@@ -55,8 +55,9 @@ reset t v = enter v.lane t Idle Constants.zero
 unfoldable pub elapsed : Voice → ℕ
 elapsed v = held (held ((v.lane.spec.total - v.lane.curve_total) + v.lane.pos) + (v.lane.seg_len - v.seg.left))
 
--- The settings or the timing have changed. A stage whose length, target and bend are as before goes on untouched; else it goes on from the current
--- level over what is left of its new length, and ends at once if that has passed. A level that holds moves at once.
+-- After other settings or another timing. If the present stage has the count, target and bend that it had, nothing is changed. Else an untimed stage
+-- has its new level; a timed one is followed by the next if its new count has passed, and otherwise has a curve for the rest of it, from the level that
+-- the voice has. A delay is compared with the level that it stays at (`l.to`), so another start level does not change it.
 unfoldable pub replan : Timing → Voice → Voice
 replan t v =
     let l = v.lane in
@@ -94,7 +95,7 @@ set_params t p v = replan t (with_params p v)
 unfoldable pub stepped : Segment → ℕ → Segment
 stepped g left = record { u = next_u g.u g.r g.d; r = g.r; d = g.d; scale = g.scale; base = g.base; left = left }
 
--- One frame passes: u steps; a timed left falls by 1; at 0 the stage's next segment follows, or the next stage that takes time or holds.
+-- One frame passes: u steps; a timed left falls by 1; at 0 the stage's next segment follows, or the next stage that has samples left or is untimed.
 unfoldable pub frame : Timing → Voice → Voice
 frame t v =
     let left = v.seg.left in

@@ -7,9 +7,10 @@ use curve::{MAX_SEGMENT, Segment, UNTIMED};
 use settings::{EnvelopeParams, Stage};
 use timing::Timing;
 
-// A stage by its settings: its count, the level it goes to, and its bend. A plan keeps the one that it
-// was made for, so that `replan` can tell whether other settings or another timing make a difference
-// to the present stage, and leave it as it is if not.
+// A stage by its settings: its count, the level it goes to, and its bend. Nothing else of the settings and
+// the timing has a part in a stage that has begun: the start level and the restart are read where a note or
+// an attack begins. So a plan keeps the three that it was made for, and `replan` leaves the stage as it is
+// if they are the same.
 #[derive(Clone, Copy, PartialEq)]
 pub struct Spec {
     pub total: u64,
@@ -31,7 +32,7 @@ pub struct Lane {
     pub to: f32,
     pub k: f64,
     pub curve_total: u64,
-    // The sample of the curve that the present segment began with.
+    // The sample of the curve, from 0, that the present segment began with.
     pub pos: u64,
     // How many samples that segment has in all.
     pub seg_len: u32,
@@ -59,7 +60,7 @@ pub struct Entered {
     pub joined: Joined,
 }
 
-// What a stage is by the settings. `level` is the level before it, at which a delay stays.
+// What a stage is by the settings. `level` is where a delay stays; no other stage reads it.
 pub(crate) fn spec_of(p: EnvelopeParams, stage: Stage, timing: Timing, level: f32) -> Spec
     ensures { result ≡ Planning.spec p stage timing level }
 {
@@ -87,10 +88,12 @@ pub(crate) fn spec_of(p: EnvelopeParams, stage: Stage, timing: Timing, level: f3
     Spec { total, to, k }
 }
 
-// An attack from above the start level leaves out the part of its curve that is below: it begins with
-// the sample that has this level, or nearly, and takes what is then left of its time. No sample has a
-// level below the start level, and a start level of 1 leaves nothing to rise: then the curve begins at
-// the level itself and is drawn whole. From 1 on the attack is over.
+// An attack from above the start level leaves out the part of its curve that is below, and takes what is
+// then left of its time. The curve is still the one from the start level, so that the level rises as in an
+// attack from there. It is drawn at whole samples, so the place is rounded to one; under the limits it is at
+// most the count, since x is at most 1. No sample has a level below the start level, and a start level of 1
+// leaves nothing to rise: then the curve begins at the level itself and is drawn whole. From 1 on the
+// attack is over.
 fn join_attack(p: EnvelopeParams, level: f32, spec: Spec) -> Joined
     ensures { result ≡ Planning.join_attack p level spec }
 {
@@ -127,7 +130,7 @@ pub(crate) fn join(p: EnvelopeParams, stage: Stage, level: f32, spec: Spec) -> J
     }
 }
 
-// The first stage from `first` on that takes time or holds, with its plan.
+// The first stage from `first` on that is untimed or has samples left from its place on, with its plan.
 fn find(p: EnvelopeParams, timing: Timing, first: Stage, first_level: f32) -> Entered
     ensures { result ≡ Planning.find p timing first first_level }
 {
@@ -185,7 +188,7 @@ impl Lane {
         }
     }
 
-    // The plan from `stage` on, which finds the voice at `level`.
+    // The plan from `stage` on, which begins at `level`; stages that take no time are left out.
     pub(crate) fn enter(self, timing: Timing, stage: Stage, level: f32) -> Voice
         ensures { result ≡ Planning.enter self timing stage level }
     {

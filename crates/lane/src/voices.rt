@@ -10,7 +10,9 @@ use curve::{Segment, UNTIMED};
 use settings::{EnvelopeParams, Stage, StealRestart, Trigger};
 use timing::Timing;
 
-// Samples of the present stage that have passed, where its segment has `left` left.
+// Samples of the present stage that have passed, where its segment has `left` left: those before its
+// curve, if it was replanned, those of the curve before the segment, and those of the segment. What an
+// attack left out when it joined its curve counts as passed.
 fn elapsed(lane: Lane, left: u32) -> u64
     ensures { result ≡ held (held ((lane.spec.total - lane.curve_total) + lane.pos) + (lane.seg_len - left)) }
 {
@@ -38,11 +40,12 @@ fn stages_last(p: EnvelopeParams, timing: Timing, first: Stage, first_level: f32
 }
 
 // The plan under new settings or a new timing. If the present stage has the same count, target and bend
-// as before, its segment is kept: cutting it anew would change bits for nothing. Else a timed stage goes
+// as before, its segment is kept: cutting it anew would change bits for nothing. A delay's target is the
+// level that it began with (`lane.to`), so another start level leaves it alone. Else a timed stage goes
 // on from the level that it has, so that nothing jumps. What was drawn of it counts towards its new
 // length, and only the rest is on the new curve; if there is no rest, the next stage begins at the new
-// target. An untimed stage is at its new level with the next frame. The plan and its segment come by
-// themselves, since a voice put together for the call would be one copy more.
+// target. An untimed stage has no time to change in, and is at its new level with the next frame. The plan
+// and its segment come by themselves, since a voice put together for the call would be one copy more.
 fn replanned(lane: Lane, seg: Segment, timing: Timing) -> Voice
     ensures { result ≡ Voices.replan timing (record { lane = lane; seg = seg }) }
 {
@@ -62,7 +65,8 @@ fn replanned(lane: Lane, seg: Segment, timing: Timing) -> Voice
 }
 
 impl Voice {
-    // Whether a trigger leaves the running envelope alone.
+    // Whether a trigger leaves the running envelope alone: a legato note on a sounding voice goes on with
+    // the envelope of the note before it, so that the two have one attack, unless the settings ask for two.
     fn leaves_alone(self, trigger: Trigger) -> bool
         ensures { result ≡ Voices.leaves_alone trigger self }
     {

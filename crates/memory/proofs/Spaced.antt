@@ -1,4 +1,4 @@
--- Numbers at equal distances that were stored are read back, and those that share no place with them stay.
+-- Numbers at equal distances that were stored are read back, and those that share no place with them stay. By induction on the list that is stored.
 use mathlib.Core.Path.{◌≡◌, refl, sym, ap, ◌∙◌, subst}
 use mathlib.Core.List.{List, [], ◌∷◌}
 use mathlib.Core.Logic.{◌⊎◌, inl, inr}
@@ -48,7 +48,7 @@ module _ {A : Type 0} where
             ∙ get_or-set_same l (place s i j) x z (f j (omega arith))
             ∙ ap (λ (m : ℕ). get_or (x ∷ xs) m z) n
 
-    -- What stands at a place that none of n takes.
+    -- A number at a place that none of n takes stays.
     pub puts-kept : (n : ℕ) (xs l : List A) (i q : ℕ) → length xs ≡ n → ((p : ℕ) → p < n → q ≡ i + s * p → ⊥)
         → get_or (puts s l i xs) q z ≡ get_or l q z
     puts-kept n xs l i q e f = far xs l i 0 q (λ p a b u. f p (omega arith) (u ∙ place_is s i p))

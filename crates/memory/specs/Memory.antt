@@ -77,7 +77,7 @@ stage_code Release = 6
 
 -- ---- places
 
--- The five columns of floats: u, r, d, scale and base of lane v. What it has left stands in a column of codes.
+-- The five columns of floats: u, r, d, scale and base of lane v. What it has left is in a column of codes.
 abbrev pub u_at : List Float → ℕ → Float
 u_at f v = get_or f v nan
 

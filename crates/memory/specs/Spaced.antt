@@ -1,4 +1,4 @@
--- Numbers that stand at equal distances in an array: how a struct's fields lie in it.
+-- Numbers at equal distances in an array: how a struct's fields lie in it.
 use Rattle.std.specs.Prelude.{List, [], ◌∷◌, ℕ, zero, suc, ◌+◌, ◌*◌, get_or, set}
 use Rattle.filled.specs.Tables.{tabulate}
 

@@ -77,7 +77,8 @@ impl Arrays {
     }
 }
 
-// As many voices as `voices`, or as there is room for. Lent the codes alone, as below the bends: the rest is kept unsaid.
+// As many voices as `voices`, or as there is room for. It is lent the codes alone, as `put_timing` the bends, so
+// that nothing has to be said of the other arrays.
 pub fn put_voices(c: &mut Codes, voices: usize)
     ensures { Memory.VoicesPut (min voices Memory.max_voices) c.old c.new }
 {

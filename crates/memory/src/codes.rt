@@ -1,4 +1,5 @@
-// Codes for what has no number. Any number is some bank's: a code that is none of them is one of the cases, by no TryFrom.
+// Codes for what has no number. Any content of the arrays is some bank, so a code that names nothing is taken for
+// one of the cases, where TryFrom would refuse it.
 ghost use Rattle.std.specs.Prelude.{◌≡◌};
 ghost use Rattle.memory.specs.Memory as Memory;
 

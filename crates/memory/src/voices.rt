@@ -149,7 +149,7 @@ impl Arrays {
     }
 }
 
-// Lent the arrays that they change and no more, so that the rest is kept without being said.
+// Each is lent the arrays that it changes and no others, so that nothing has to be said of those.
 
 fn store_segment(f: &mut Floats, c: &mut Codes, slot: Slot, s: Segment)
     ensures floats { f.new ≡ Spaced.puts 68 f.old slot.v (s.u ∷ s.r ∷ s.d ∷ s.scale ∷ s.base ∷ []) }

@@ -1,4 +1,4 @@
--- A number that was put into n bytes is read back from them, wherever they stand.
+-- A number that was put into n bytes is read back from them, wherever in a list they are. By induction on n.
 use Rattle.std.proofs.Common.{◌≡◌, ℕ, zero, suc, ◌/◌, ◌%◌, ◌^◌, ◌<◌, List, [], ◌∷◌, ◌++◌, length, get_or, ◌∙◌, subst, div-add-mod', arith, length-append}
 use lib.Seq.{get_or-append_seam, append_snoc}
 use Rattle.numbers.specs.Bytes.{lowest_first, number}

@@ -1,4 +1,5 @@
--- Steps of E as the loops of `exp_m1` take them: what is left of the definition, run from here, gives the answer.
+-- The two loops of `exp_m1`, an iteration at a time: suc m steps of the definition are one and then m (`series_step`, `doublings_step`), and no steps
+-- leave the value as it is (`series_done`, `doublings_done`). Each is a clause of the definition.
 use Rattle.std.proofs.Common.{◌≡◌, ℕ, suc, refl}
 use lib.Ieee.{Float, binary64, of_bits}
 use Rattle.numbers.specs.Rounded.{◌⊕◌, ◌⊗◌, ◌⊘◌}

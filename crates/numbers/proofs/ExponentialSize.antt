@@ -1,4 +1,5 @@
--- E(z) is a number where |z| ≤ 64: the series stays within 2, and each doubling takes 2^k to at most 2^(2 k + 1), so six take 2 to at most 2^127.
+-- E(z) is a number where |z| ≤ 64: the series stays within 2, and each doubling takes 2^k to at most 2^(2 k + 1), so six take 2 to at most 2^127. By
+-- induction on the series' terms, and on the doublings.
 use Rattle.std.proofs.Common.{◌≡◌, ℕ, zero, suc, ◌+◌, ◌*◌, ◌^◌, ◌≤◌, false, T, sym, ap, ◌∙◌, le_trans, le_of_eq, mul-le-mul_right, mul_assoc, one-mul, pow-suc, mul-one, arith, lit≤, pow_pos, pow_mono}
 use lib.Ieee.{Float, binary64, of_int}
 use lib.Ieee.Back.{round_whole}

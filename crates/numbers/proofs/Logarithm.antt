@@ -1,4 +1,5 @@
--- L as `ln_1p` and `ln_of` compute it: the series' steps, the exponent as an i32, and the branches.
+-- L as `ln_1p` and `ln_of` compute it: the series a term at a time (`series_step`), the exponent as an i32, in whose range it is, and the branches of
+-- `ln_1p`, each a case of the definition. That the fields of w's pattern are its m and e is `parts_by_fields`.
 use Rattle.std.proofs.Common.{◌≡◌, ℕ, suc, ◌+◌, ◌-◌, ◌*◌, ◌/◌, ◌%◌, ◌^◌, ◌<◌, ◌≤◌, Bool, true, false, cond, not, ◌&&◌, T, ltb, ℤ, pos, negsuc, ◌+ℤ◌, ◌-ℤ◌, sym, refl, ap, ◌∙◌, subst, lt_of_lt_of_le, mod-lt, arith, lit<, lit≤, pow_pos, w32, SFits, to_z, of_z}
 use Rattle.std.proofs.lemmas.Float.{not_nan_f64_bits}
 use mathlib.Core.Bool.{false≢true}

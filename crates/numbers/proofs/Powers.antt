@@ -1,4 +1,5 @@
--- Steps of `powi` as its loop takes them, and the place of the highest one bit.
+-- The loop of `powi`, an iteration at a time: the bits left are one bit and then the rest (`pow_step`), and with none left the product is the answer
+-- (`pow_done`). The place of the highest one bit is one less than the number of digits (`highest`).
 use Rattle.std.proofs.Common.{◌≡◌, ℕ, suc, ◌+◌, ◌-◌, ◌*◌, ◌/◌, ◌%◌, ◌^◌, ◌<◌, ◌≤◌, Bool, cond, eqb, sym, refl, le_trans, le_of_eq, lt_of_not-le, arith, pow_mono}
 use native.Mathlib.Nat.{pow-succ'}
 use lib.Count.{count_leading_zeros, leading_length}

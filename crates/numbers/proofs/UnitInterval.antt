@@ -1,4 +1,5 @@
--- `unit` by cases: inside 0..1 the number itself, above it 1, below it and at NaN +0. Its range; 1 - x is no zero for an x below 1.
+-- `unit` by cases: inside 0..1 the number itself, above it 1, below it and at NaN +0. So its range is 0 to 1, without a sign (`unit_range`); and
+-- below 1 the distance to 1 does not round to zero, since it is a smallest value at least (`distance-to-one`).
 use Rattle.std.proofs.Common.{◌≡◌, ℕ, zero, suc, ◌+◌, ◌-◌, ◌*◌, ◌^◌, ◌<◌, ◌≤◌, Bool, true, false, cond, not, ◌&&◌, ◌||◌, T, eqb, ltb, ℤ, pos, sym, refl, ap, ◌∙◌, subst, inl, inr, true≢false, zero-le, le_trans, le_of_eq, le_of_lt, mul-le-mul_right, zero-lt-suc, eq-or-lt_of_le, mul-pos, one-mul, zero-mul, arith, lit≤, eqb→eq, ltb→lt, nltb→le, pow_pos, ltb-false, ltb-true, le-ltb}
 use mathlib.Core.Bool.{false≢true}
 use lib.Pow.{pow-lt}

@@ -1,4 +1,4 @@
--- Counts held at the largest u64. No envelope that calls from a fresh one left comes near it (envelope/proofs/Reachable.antt).
+-- Counts that saturate at the largest u64. No envelope that calls from a fresh one left comes near it (envelope/proofs/Reachable.antt).
 use Rattle.std.specs.Prelude.{ℕ, min}
 
 abbrev pub held : ℕ → ℕ

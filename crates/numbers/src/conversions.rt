@@ -72,7 +72,7 @@ pub fn narrow(x: f64) -> f32
 }
 
 // The whole number nearest to the binary64 with no sign, the exponent field e and the digits t, a
-// half up, held at the largest u64.
+// half up, saturating at the largest u64.
 fn round_fields(e: u64, t: u64) -> u64
     requires { (e < 2048) × (t < 2 ^ 52) × (e ≡ 2047 → t ≡ 0) }
     ensures { result ≡ Conversions.round_u64 (of_fields binary64 false e t) }

@@ -2,7 +2,9 @@
 ghost use Rattle.std.specs.Prelude.{◌≡◌};
 ghost use Rattle.numbers.specs.Limits as Limits;
 
-// A level or a curve control as it is used: from +0 to 1, and +0 for a NaN.
+// A level or a curve control as it is used: from +0 to 1, and +0 for a NaN. It is never -0, so that
+// levels which compare equal have the same bits: `replan`, which compares them, then misses no change, and
+// a level that stays is the same drawn as u × scale + base, or handed out as its base as by the Rust's bank.
 // By tests, since the Rust's `clamp` and sum with +0 take 2 % longer.
 pub fn unit(x: f32) -> f32
     ensures { result ≡ Limits.unit x }

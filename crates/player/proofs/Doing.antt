@@ -1,4 +1,5 @@
--- What an event does: the levels that it hands out are the rows of its frames, and the check knows of the bank after it what the bank says itself.
+-- What an event does: the levels that it hands out are the rows of its frames, and the check knows of the bank after it what the bank says itself. By
+-- cases on the event, whose arms are the bank's own calls.
 use mathlib.Core.Path.{◌≡◌, refl, sym, ap, ◌∙◌, subst}
 use mathlib.Core.Bool.{Bool, true, false}
 use mathlib.Core.List.{List, []}

@@ -1,5 +1,6 @@
--- Record after record: what is written is the head of the list's levels, what is still to come is their rest, and the output past it is as it was. The
--- check of the rest passes from here, so that there is room for it.
+-- The invariant of `play_records` (`Played`), record after record: what is written is the head of the list's levels, what is still to come is their
+-- rest, and the output past it is as it was. The check of the rest passes from here, so that there is room for it. It holds at first (`begun`), a
+-- record that is applied keeps it (`one_on`, the step lemma), and where no record is left the output holds the list's levels (`finished`).
 use mathlib.Core.Path.{◌≡◌, refl, sym, ap, ap₂, ◌∙◌, subst}
 use mathlib.Core.List.{List, [], ◌∷◌, ◌++◌, append_assoc, append-nil}
 use Prim.Native.Nat.{ℕ, zero, suc, ◌+◌, ◌*◌, ◌-◌, ◌/◌, ◌<◌, ◌≤◌}

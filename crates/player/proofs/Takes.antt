@@ -1,4 +1,5 @@
--- What is heard is due: demand 3, for a host that plays a list.
+-- The levels of an accepted list are those that demand 3 says are due for its calls (`heard-due`): the first record opens a bank, no later one does,
+-- so that the others are calls; and what a bank replies to calls is due (`replies-due`). By induction on the events.
 use mathlib.Core.Path.{◌≡◌, refl, sym, ap, ◌∙◌, subst}
 use mathlib.Core.Bool.{true, false}
 use mathlib.Core.List.{List, [], ◌∷◌, ◌++◌}

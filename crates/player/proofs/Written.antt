@@ -1,4 +1,6 @@
--- As many frames are written as are returned; and the place that is told of a list.
+-- An accepted list has as many levels as the frames that are returned (`frames-written`): the levels of the records to come and those of the frames
+-- so far add up to the levels of all frames (`counted`, by induction on the records). And the place that `refused_at` tells is where the check ended
+-- (`place-told`).
 use mathlib.Core.Path.{◌≡◌, refl, sym, ap, ◌∙◌}
 use mathlib.Core.Bool.{Bool, true, false}
 use mathlib.Core.List.{List, ◌∷◌}

@@ -1,4 +1,4 @@
--- What a list is heard as, and what the console's host gets of it, in bytes.
+-- The levels that playing a list hands out, and what the console's host gets of it, in bytes.
 use Rattle.std.specs.Prelude.{ℕ, zero, suc, List, [], ◌∷◌, ◌++◌, ℤ, pos, neg_ℤ, length, drop, Float}
 use Rattle.numbers.specs.Constants as Constants
 use Rattle.timing.specs.Clock as Clock

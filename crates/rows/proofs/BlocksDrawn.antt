@@ -1,4 +1,6 @@
--- Blocks of rows, one after the other, are all their rows.
+-- n rows drawn behind m rows are m + n rows (`drawn_on`, the step lemma of `draw`). u after m steps and n more is u after m + n (`u_more`, by
+-- induction), so a lane that was moved on by m rows has the levels of the rows from m on; the output was lent from its row m on, so that the rows
+-- before are as they were.
 use mathlib.Core.Path.{◌≡◌, sym, ap, ◌∙◌, subst}
 use mathlib.Core.Logic.{◌⊎◌, inl, inr}
 use mathlib.Core.List.{List, ◌++◌}

@@ -1,4 +1,6 @@
--- Groups of sixteen lanes, one after the other: what is drawn after some of them.
+-- The invariant of `draw_block` (`GroupsDrawn`), group after group: in every row the places of the first q groups hold their levels, their lanes have
+-- moved on, and what is past the rows is as it was. One more group keeps it (`groups_more`, the step lemma): the groups before it neither moved its
+-- lanes nor are drawn over by it. By cases on which group a place belongs to.
 use mathlib.Core.Path.{◌≡◌, sym, ◌∙◌, subst}
 use mathlib.Core.Logic.{◌⊎◌, inl, inr}
 use mathlib.Core.List.{List}
@@ -12,7 +14,7 @@ use Rattle.rows.specs.Rows.{moved_at, drawn_at, Still, Laid, GroupDrawn}
 use Rattle.rows.specs.Places.{Told, Shifts}
 use Rattle.rows.proofs.LanesMoved.{Moved, put_back, still_filled}
 
--- The places of one group are told by its levels.
+-- The places of one group depend on its levels alone.
 pub told-one : {A : Type 0} (wide : ℕ) (cell : (ℕ → Float) → ℕ → A) → Told wide cell → (f g : ℕ → Float) → ((i : ℕ) → i < 16 → f i ≡ g i)
     → (c : ℕ) → c < wide → cell f c ≡ cell g c
 told-one wide cell told f g e c h = told 1 f g (λ i p. e i (omega arith)) c (omega arith)

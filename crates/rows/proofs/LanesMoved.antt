@@ -1,4 +1,6 @@
--- Sixteen lanes that were taken out of the array: their levels and their u, row by row, and back in the array. Lanes that stay.
+-- Sixteen lanes that were taken out of the array. After k rows their levels are those of the array's lanes (`row-levels`), a row takes u one step on
+-- (`row_moved`), and put back they are the array's lanes moved on (`put_back`). Lanes that a row leaves as they are have the first row in every row
+-- (`still-level`, by induction on the rows); `still_of_tests`: those that pass the code's three tests are such lanes.
 use mathlib.Core.Path.{◌≡◌, refl, sym, ap, ◌∙◌, subst}
 use mathlib.Core.Bool.{Bool, true, false, ◌&&◌, ◌||◌, beq, true≢false}
 use mathlib.Core.List.{List}

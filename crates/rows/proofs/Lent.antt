@@ -1,4 +1,4 @@
--- A list of which the part from `at` on was lent, and came back as p'.
+-- A list of which the part from `at` on was lent, and came back as p': it is as it was before `at`, and p' from there on.
 use mathlib.Core.Path.{◌≡◌, ap, ◌∙◌, subst}
 use mathlib.Core.List.{List, ◌++◌, append-nil}
 use Prim.Native.Nat.{ℕ, ◌+◌, ◌-◌, ◌≤◌, ◌<◌}

@@ -1,4 +1,5 @@
--- Rows of a stride, one after the other, and sixteen levels laid in each.
+-- One row more of a group's places (`laid_more`, the step lemma of the loops over rows): its places hold its levels, while earlier rows, the places
+-- before the group's and what is past the rows stay. By cases on the row of a place; a row ends before the next one begins (`row_fits`).
 use mathlib.Core.Path.{◌≡◌, ap, ◌∙◌, subst}
 use mathlib.Core.Logic.{◌⊎◌, inl, inr}
 use mathlib.Core.List.{List}

@@ -1,4 +1,5 @@
--- Spare lanes, cleared one after the other; and silent lanes, which rows leave silent.
+-- Spare lanes, cleared one after the other (`cleared_more`, the step lemma of `clear_spare`); and silent lanes, whose level is +0 in every row and
+-- which rows leave silent, since +0 × 1 + 0 is +0: by induction on the rows.
 use mathlib.Core.Path.{◌≡◌, refl, ap, ◌∙◌, subst}
 use mathlib.Core.Logic.{◌⊎◌, inl, inr}
 use mathlib.Core.List.{List}

@@ -1,4 +1,6 @@
--- What the lengths of runs and the search for ended segments mean for each voice.
+-- What the length of a run means for each voice: it is at least 1, passes the end of no segment (`until_end_inside`), and ends none if it is shorter
+-- (`before_end`). And what the search for ended segments finds (`NextEnded`): the first voice from a on that has ended, or n. By induction on the
+-- voices.
 use mathlib.Core.Path.{◌≡◌, refl, sym, ap, subst}
 use mathlib.Core.Bool.{Bool, true, false, cond}
 use mathlib.Core.Logic.{◌⊎◌, inl, inr}

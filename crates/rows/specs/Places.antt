@@ -1,4 +1,4 @@
--- Places of a row: by which lanes they are told. So it is of floats, one to a level, and of bytes, four to a level.
+-- Places of a row, and which lanes they depend on: proved of floats, one to a level, and of bytes, four to a level.
 use Rattle.std.specs.Prelude.{◌≡◌, ℕ, ◌+◌, ◌*◌, ◌/◌, ◌%◌, ◌<◌, get_or, Float, refl}
 use Rattle.std.specs.Float.{binary32}
 use Rattle.std.specs.Float.Ieee.{to_bits}
@@ -7,11 +7,11 @@ use Rattle.numbers.specs.Bytes.{lowest_first}
 use Rattle.rows.specs.Rows.{float_cell, byte_cell}
 
 module _ {A : Type 0} (wide : ℕ) (cell : (ℕ → Float) → ℕ → A) where
-  -- The places of n groups are told by their levels.
+  -- The places of n groups depend on the levels of those groups alone.
   abbrev pub Told : Type 0
   Told = (n : ℕ) (f g : ℕ → Float) → ((i : ℕ) → i < 16 * n → f i ≡ g i) → (c : ℕ) → c < wide * n → cell f c ≡ cell g c
 
-  -- A place of a later group is one of its own sixteen lanes.
+  -- A place of a later group depends on that group's lanes as the first group's place on its own.
   abbrev pub Shifts : Type 0
   Shifts = (f : ℕ → Float) (q c : ℕ) → cell f (wide * q + c) ≡ cell (λ i. f (16 * q + i)) c
 

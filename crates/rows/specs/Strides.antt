@@ -5,6 +5,6 @@ use Rattle.std.specs.Prelude.{ℕ, ◌+◌, ◌*◌, ◌/◌, max}
 abbrev pub groups_of : ℕ → ℕ
 groups_of n = max 1 ((n + 15) / 16)
 
--- The voice count rounded up to a multiple of 16, at least 16.
+-- The levels of a row of n voices: sixteen for each group.
 abbrev pub stride_of : ℕ → ℕ
 stride_of n = 16 * groups_of n

@@ -1,5 +1,5 @@
 // Sixteen lanes: taken out of the array and put back, their levels, one row on, and whether they stay. A part of
-// an array is told by its first place, as the laws have it: its length is its type's.
+// an array is given by its first place alone, as in the laws: its length is its type's.
 pub(crate) mod drawing;
 pub(crate) mod places;
 pub(crate) mod spare;
@@ -71,7 +71,8 @@ impl Lanes {
         y
     }
 
-    // The levels, and u one row on. One loop for both: one after the other they miss the speed.
+    // The levels, and u one row on. Each product and each sum is rounded by itself, as in the single
+    // envelope: a fused one would give other bits. One loop for both, since two take longer.
     fn next_row(&mut self) -> [f32; 16]
         ensures levels { Rows.Levels self.old.u self.old.scale self.old.base result }
         ensures moved { Filled nan (Rows.steps_at self.old.u self.old.r self.old.d) 0 16 self.old.u self.new.u }
@@ -91,7 +92,7 @@ impl Lanes {
 }
 
 // Puts `part` from place `to` on. A loop, since `copy_from_slice` asks at each row whether the two
-// overlap, and misses the speed.
+// overlap, and takes longer.
 fn put<P: Copy, const N: usize>(out: &mut [P], to: usize, part: &[P; N])
     requires { to + N ≤ length out.old }
     ensures { (z : P) → Filled z (λ j. get_or part.now (j - to) z) to (to + N) out.old out.new }

@@ -1,4 +1,5 @@
--- What a `?` hands on: a refusal keeps its number, whatever the answer's type.
+-- What a `?` hands on: a refusal keeps its number, whatever the answer's type; and no refusal's number is 0. By cases on the answer, and on the
+-- refusal.
 use Rattle.std.proofs.Common.{◌≡◌, ap, arith}
 use mathlib.Core.Logic.{◌≢◌}
 use Rattle.std.specs.Prelude.{Result, Ok, Err}

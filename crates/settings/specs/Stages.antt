@@ -3,7 +3,7 @@ use Rattle.std.specs.Prelude.{ℕ, Bool, true, false}
 use Rattle.settings.specs.declared.stages.Stage.{Stage}
 use Rattle.settings.specs.declared.stages.Stage.TheVariants.{Idle, Delay, Attack, Hold, Decay, Sustain, Release}
 
--- The stage after this one, when it ends by itself.
+-- What follows a stage whose time is over; Idle and Sustain, which have none, follow themselves.
 abbrev pub next : Stage → Stage
 next Idle = Idle
 next Delay = Attack
@@ -13,7 +13,7 @@ next Decay = Sustain
 next Sustain = Sustain
 next Release = Idle
 
--- Whether it holds its level until something happens.
+-- Whether it is untimed: its level stays until a call. Hold is not: it stays at 1 for its time.
 abbrev pub holds : Stage → Bool
 holds Idle = true
 holds Delay = false
@@ -23,7 +23,7 @@ holds Decay = false
 holds Sustain = true
 holds Release = false
 
--- How many stages come before one that holds, itself counted.
+-- How many timed stages there are from it on, itself counted, up to an untimed one.
 abbrev pub timed_stages : Stage → ℕ
 timed_stages Idle = 0
 timed_stages Delay = 4
@@ -42,7 +42,7 @@ is_idle Decay = false
 is_idle Sustain = false
 is_idle Release = false
 
--- Whether a release finds nothing left to do.
+-- Whether a release changes nothing: it has begun already, or there is no note to end.
 abbrev pub is_released : Stage → Bool
 is_released Idle = true
 is_released Delay = false

@@ -14,8 +14,8 @@ pub enum StealRestart {
 
 // Kinds of triggers, for the caller to choose from. New begins at the start level, whether the voice
 // sounds or not. Retrigger gives a sounding voice another note, from the level that `steal_restart`
-// names. Legato changes nothing while the voice sounds, or is a retrigger if `legato_inverted` is set.
-// On an idle voice all three are the same.
+// names. Legato changes nothing while the voice sounds, since notes played legato share one attack, or is
+// a retrigger if `legato_inverted` is set. On an idle voice all three are the same.
 #[derive(Clone, Copy)]
 pub enum Trigger {
     New,
@@ -23,8 +23,8 @@ pub enum Trigger {
     Legato,
 }
 
-// The times count what `unit` says. The levels and the curves are kept as given, and where they are
-// used taken through `numbers::unit`.
+// The times count what `unit` says. The levels and the curves are kept as given, so that a reading has
+// what the caller set, and where they are used taken through `numbers::unit`.
 #[derive(Clone, Copy)]
 pub struct EnvelopeParams {
     pub unit: TimeUnit,

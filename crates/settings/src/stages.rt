@@ -17,7 +17,7 @@ pub enum Stage {
 }
 
 impl Stage {
-    // What follows when its time is over. Idle and Sustain have no time, and are followed by themselves.
+    // What follows when its time is over. Idle and Sustain have no time, and follow themselves.
     pub fn next(self) -> Self
         ensures { result ≡ Stages.next self }
     {
@@ -32,7 +32,7 @@ impl Stage {
         }
     }
 
-    // Whether it holds its level until something happens.
+    // Whether it is untimed: its level stays until a call. Hold is not: it stays at 1 for its time.
     pub fn holds(self) -> bool
         ensures { result ≡ Stages.holds self }
     {
@@ -46,7 +46,7 @@ impl Stage {
         matches!(self, Stage::Idle)
     }
 
-    // Whether a release finds nothing left to do.
+    // Whether a release changes nothing: it has begun already, or there is no note to end.
     pub fn is_released(self) -> bool
         ensures { result ≡ Stages.is_released self }
     {

@@ -1,4 +1,6 @@
--- Document 01: under its limits a count is at most 659,706,976,665,600, which is 2^20 beats of 60 seconds, 10 times as long, at 2^20 samples per second.
+-- Document 01: under its limits a count is at most 659,706,976,665,600, which is 2^20 beats of 60 seconds, 10 times as long, at 2^20 samples per
+-- second. Each factor is bounded, by cases on the float; the product of the bounds is below 2^53, so that rounding keeps it (`mul_upto`), and so does
+-- the rounding to a count (`rounded_le`).
 use mathlib.Core.Path.{◌≡◌, refl}
 use mathlib.Core.Bool.{Bool, true, false, not, cond}
 use Prim.Native.Nat.{ℕ, ◌+◌, ◌*◌, ◌^◌, ◌≤◌, ◌<◌}

@@ -70,7 +70,9 @@ impl Timing {
         Self { scale, ..self }
     }
 
-    // How many samples a time lasts, to the nearest whole number; none if it is negative or NaN.
+    // How many samples a time lasts, to the nearest whole number, and at most the largest u64. A time or a
+    // rate that is negative or NaN counts as 0, which `max` makes of both; a NaN factor leaves a NaN, which
+    // rounds to 0.
     pub fn samples(self, value: f32, unit: TimeUnit) -> u64
         ensures { result ≡ Samples.samples self value unit }
     {
@@ -80,7 +82,7 @@ impl Timing {
     }
 }
 
-// A time in seconds, before the factor.
+// A time in seconds, before the factor. A tempo below 1, or NaN, counts as 1: nothing is divided by 0.
 fn seconds(value: f32, unit: TimeUnit, tempo: f64) -> f64
     ensures { result ≡ Samples.seconds value unit tempo }
 {

@@ -1,4 +1,5 @@
--- What a reading over C answers and leaves behind its pointer, from the reply of the bank's own reading: one law for every kind of value.
+-- What a reading over C answers, and what it leaves behind its pointer, from the reply to the bank's own reading: one law for every kind of value. By
+-- cases on whether that reading is refused.
 use mathlib.Core.Path.{◌≡◌, refl, sym, ap, ◌∙◌}
 use Prim.Native.Nat.{ℕ}
 use Rattle.std.specs.Prelude.{Result, Ok, Err, MatchResult}

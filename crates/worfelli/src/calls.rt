@@ -67,7 +67,8 @@ pub extern "C" fn worfelli_live_set_params(
     }
 }
 
-// New settings for every voice. Refused: 10, 3. It makes another call of the bank than the one above: no twin in a type.
+// New settings for every voice. Refused: 10, 3. It makes another call of the bank than the one above, so one
+// generic function would not replace the two.
 #[unsafe(no_mangle)]
 pub extern "C" fn worfelli_live_set_all_params(
     bank: &mut Bank,

@@ -106,12 +106,12 @@ impl EnvelopeParams {
     /// the note it is at 0 in 15.
     pub const AMP: Self = Self {
         // Times.
-        unit: TimeUnit::Milliseconds,
-        delay: 0.0,
         attack: 1.0,
-        hold: 0.0,
         decay: 1000.0,
         release: 15.0,
+        delay: 0.0,
+        hold: 0.0,
+        unit: TimeUnit::Milliseconds,
         // Levels.
         start: 0.0,
         sustain: 1.0,

@@ -1,4 +1,4 @@
--- `check_event`: frames are a process whose output they fill, so whole frames.
+-- `check_event`: frames are a process whose output they fill, so whole frames, which are not refused (`whole`).
 use mathlib.Core.Path.{sym}
 use Rattle.bank.proofs.Accepted.{whole}
 use Rattle.checking.specs.Deeds.{deed, own_refusal}

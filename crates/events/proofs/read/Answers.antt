@@ -1,4 +1,5 @@
--- `read`: its tests are the definition's.
+-- `read`: its tests are the definition's in the same order, and each return is a case of it; the two bytes of the length are its number
+-- (`two_bytes`).
 use native.Mathlib.Omega.{arith}
 use borrow.Author.Tests.{ne_eqb}
 use Rattle.events.specs.Format.{read}

@@ -1,4 +1,5 @@
--- The binary32 pattern that a rounded fraction has: q × 2^k smallest values are written k × 2^23 + q, where q has the leading digit or k is 0.
+-- The binary32 pattern that a rounded fraction has: q × 2^k smallest values are written k × 2^23 + q, where q has the leading digit or k is 0. By
+-- cases: rounding may have carried into a 25th digit, which raises the exponent field by one; else q has 24 digits, or is subnormal.
 use Rattle.std.proofs.Common.{◌≡◌, ℕ, ◌+◌, ◌-◌, ◌*◌, ◌/◌, ◌^◌, ◌<◌, ◌≤◌, Bool, true, false, cond, T, ltb, ◌⊎◌, sym, refl, ap, ◌∙◌, subst, inl, inr, le_trans, le_of_eq, lt_of_lt_of_le, lt_of_le_of_lt, add_assoc, mul-le-mul_right, eq-or-lt_of_le, mul-one, not-le_of_lt, div-one, mul-div_cancel, arith, ltb→lt, pow_pos, pow_mono, pow-add, shl_lt}
 use Rattle.std.proofs.lemmas.Bool.{cases_lt}
 use lib.Dec.{not_T}

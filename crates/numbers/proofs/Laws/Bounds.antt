@@ -1,4 +1,5 @@
--- Bounds on binary64 results: what stays at most B, or from 0 to B, through rounding, product, quotient and `max`.
+-- Bounds on binary64 results: what stays at most B, or from 0 to B, through rounding, product, quotient and `max`. By cases on the operands; rounding
+-- keeps the order, and a whole number up to 2^53 is itself when it is rounded.
 use Rattle.std.proofs.Common.{◌≡◌, ℕ, zero, suc, ◌+◌, ◌*◌, ◌^◌, ◌<◌, ◌≤◌, Bool, true, false, cond, not, T, ltb, ℤ, pos, sym, refl, ap, ◌∙◌, subst, true≢false, zero-le, le_trans, le_of_eq, lt_irrefl, mul-le-mul_right, zero-lt-suc, mul_assoc, mul_comm, mul-le-mul_left, mul-pos, mul-zero, zero-mul, mul-one, mul_right_comm, le_of_mul-le-mul_right, arith, lit≤, nltb→le, ltb-false}
 use mathlib.Core.Bool.{false≢true}
 use native.Mathlib.Nat.{mul-mul-mul_comm}

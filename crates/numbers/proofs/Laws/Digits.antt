@@ -1,4 +1,5 @@
--- Powers of two and the number of binary digits.
+-- Powers of two and the number of binary digits: n has z + 1 digits if it is from 2^z to below 2^(z + 1) (`size_is`), so that a factor of 2^j adds j
+-- digits (`size_shift`).
 use Rattle.std.proofs.Common.{◌≡◌, ℕ, suc, ◌+◌, ◌-◌, ◌*◌, ◌^◌, ◌<◌, ◌≤◌, sym, ap, ◌∙◌, le_trans, le_of_eq, lt_of_lt_of_le, le_of_suc-le-suc, lt_irrefl, mul-le-mul_right, lt_of_not-le, not-le_of_lt, arith, pow_mono, pow-add, shl_lt}
 use lib.Pow.{pow-lt}
 use lib.Ieee.{size}

@@ -1,4 +1,4 @@
--- The NaN test, the sign that rounding gives, and values that rounding keeps.
+-- The NaN test, the sign that rounding gives, and what `le` says of two positive fractions. By cases on the float.
 use Rattle.std.proofs.Common.{◌≡◌, ℕ, zero, suc, ◌+◌, ◌*◌, ◌^◌, ◌<◌, ◌≤◌, Bool, true, false, cond, not, ◌&&◌, ◌||◌, T, eqb, ltb, pos, sym, refl, subst, le_of_eq, le_of_lt, eqb→eq, ltb→lt}
 use mathlib.Core.Bool.{false≢true}
 use lib.Ieee.{Float, nan, inf, fin, Format, prec, emax, low, units, odd, round, is_nan}

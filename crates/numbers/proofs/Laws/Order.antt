@@ -1,4 +1,5 @@
--- What `compare` answers.
+-- `compare` answers lt, eq or gt as the first number is below, equal to or above the second. By cases on its answer, of which the order rules out
+-- two.
 use Rattle.std.proofs.Common.{◌≡◌, ℕ, ◌<◌, ◌≤◌, not, T, refl, subst, arith, eqb→eq, leb→le}
 use Prim.Native.Nat.{compare, Ordering}
 use lib.Dec.{is_le, compare_is_eq, eqb_refl, nleb→lt}

@@ -1,4 +1,5 @@
--- Bit patterns: the pattern of a value, the fields of a binary64, and that a value which fits is the only one of its number and sign.
+-- Bit patterns: the pattern of a value, and the fields of a binary64. A value is read back from its pattern, so one that fits is the only one of its
+-- number and sign (`same-value`), and rounding it gives it back (`round_own`).
 use Rattle.std.proofs.Common.{◌≡◌, ℕ, zero, suc, ◌+◌, ◌-◌, ◌*◌, ◌/◌, ◌%◌, ◌^◌, ◌<◌, ◌≤◌, Bool, true, false, cond, not, ◌&&◌, T, eqb, ltb, leb, ℤ, pos, negsuc, sym, refl, ap, ◌∙◌, subst, le_of_eq, lt_of_lt_of_le, lt_of_le_of_lt, mod-lt, mul_assoc, lt_of_mul-lt-mul_right, mul-lt-mul_of_pos_right, zero-mul, mul-one, mul_right_comm, mul-div_cancel, arith, eqb→eq, ltb→lt, leb→le, pow_pos, pow-add}
 use lib.Dec.{not_T}
 use lib.Ieee.{Float, nan, inf, fin, Format, binary64, prec, emax, low, hid, top, up, down, size, odd, round, fits, of_fields, of_bits, to_bits, is_nan, nan_bits}

@@ -1,4 +1,5 @@
--- Sizes by powers of two, whatever the sign: |x| ≤ 2^k through rounding, sums, products and quotients, in either format.
+-- Sizes by powers of two, whatever the sign: |x| ≤ 2^k through rounding, sums, products and quotients, in either format. The exact result is bounded
+-- by arithmetic, and rounding keeps the bound (`round_within`), since 2^k is itself a value of the format.
 use Rattle.std.proofs.Common.{◌≡◌, ℕ, zero, suc, ◌+◌, ◌-◌, ◌*◌, ◌^◌, ◌<◌, ◌≤◌, Bool, true, false, cond, ◌&&◌, T, ltb, sym, ap, ◌∙◌, subst, true≢false, le_trans, le_of_eq, mul-le-mul_right, zero-lt-suc, mul_assoc, mul_comm, mul-le-mul_left, mul-pos, one-mul, pow-suc, zero-mul, mul-one, mul_right_comm, arith, pow_pos, pow-add}
 use mathlib.Core.Bool.{beq}
 use lib.Dec.{eqb-suc-zero}

@@ -1,4 +1,5 @@
 -- Zeros: rounding keeps one with its sign, adding +0 keeps a positive number and turns a zero of either sign into +0, and what gives or keeps a zero.
+-- By cases on the operands.
 use Rattle.std.proofs.Common.{◌≡◌, ℕ, zero, suc, ◌+◌, ◌-◌, ◌*◌, ◌<◌, Bool, true, false, not, T, ℤ, pos, sym, refl, ap, ◌∙◌, subst, true≢false, le_refl, lt_irrefl, zero-lt-suc, mul-pos, zero-mul, mul-one, arith, le-ltb}
 use native.Mathlib.Nat.{sub_self}
 use lib.Dec.{eqb-suc-zero}

@@ -1,4 +1,4 @@
--- `read_full`: read after read. Invariant: the bytes stay as many, and no more than those were read. Fewer are left to read each time.
+-- `read_full`: read after read. Invariant: the slice keeps its length, and no more bytes than it has were read. Measure: the bytes left to read.
 use Rattle.std.proofs.Common.{length, ◌-◌, ◌≤◌, ◌≡◌}
 use Rattle.play.proofs.read_full.Given as goal
 

@@ -1,5 +1,5 @@
--- `play`: what the check told decides. A refusal's number is small, so minus it fits; and so are the frames of an accepted list, since an output
--- holds fewer of them than bytes (`small`).
+-- `play`: by the answer of the check. A refusal's number is small, so that minus it is an i64; and so is the number of frames of an accepted list,
+-- since an output holds fewer of them than bytes (`small`).
 use mathlib.Core.Path.{◌≡◌, sym, ap, ◌∙◌}
 use Prim.Native.Nat.{ℕ, ◌/◌, ◌^◌, ◌<◌}
 use native.Mathlib.Omega.{arith}

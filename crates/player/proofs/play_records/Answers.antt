@@ -1,6 +1,6 @@
--- `play_records`: an accepted list, record after record. Invariant (`Played`): the output up to `to` and the levels of the records to come are
--- together the list's levels, the output past `to` is as before, and the rest of the list passes the check; measure: the bytes left.
--- One record more is `one_on`; that its frames fit is what the check of the rest says (`frames-fit`).
+-- `play_records`: the invariant holds of the opened bank at byte 0 (`begun`). A record's frames fit, since the check of the rest passes
+-- (`frames-fit`), and applied it keeps the invariant (`one_on`); its end is past its beginning, so that fewer bytes are left. Where no record can be
+-- read, the output holds the list's levels (`finished`).
 use mathlib.Core.Path.{sym, ap, ◌∙◌}
 use native.Mathlib.Omega.{arith}
 use lib.Ieee.{of_bits}

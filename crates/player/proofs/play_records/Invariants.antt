@@ -1,6 +1,5 @@
 -- `play_records`: an accepted list, record after record. Invariant (`Played`): the output up to `to` and the levels of the records to come are
--- together the list's levels, the output past `to` is as before, and the rest of the list passes the check; measure: the bytes left.
--- One record more is `one_on`; that its frames fit is what the check of the rest says (`frames-fit`).
+-- together the list's levels, the output past `to` is as before, and the rest of the list passes the check. Measure: the bytes left.
 use Prim.Native.Nat.{◌-◌}
 use lib.ListN.{length}
 use Rattle.bank.specs.Banks.{bank_of}

@@ -1,4 +1,4 @@
--- `refused_at`: the place that the check ensures is what the definition tells of the list (`place-told`).
+-- `refused_at`: the place at which the check ends is the definition's (`place-told`).
 use mathlib.Core.Path.{ap, ◌∙◌}
 use Rattle.checking.specs.Checks.{Checked}
 use Rattle.player.proofs.Written.{place-told}

@@ -1,4 +1,4 @@
-// Rows drawn, into floats or into bytes. A group's places are told by `at` and `stride` within the whole output,
+// Rows drawn, into floats or into bytes. A group's places are given by `at` and `stride` within the whole output,
 // since those of other groups lie between them.
 ghost use Rattle.std.specs.Prelude.{◌+◌, ◌*◌, ◌≤◌, min, length};
 ghost use Rattle.memory.specs.Memory as Memory;

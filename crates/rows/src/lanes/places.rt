@@ -20,10 +20,10 @@ pub trait Place<const N: usize>: Copy {
     fn row_of(y: &[f32; 16]) -> [Self; N]
         ensures { (c : ℕ) → c < N → get_or result c blank ≡ cell (λ i. get_or y.now i nan) c };
 
-    // The places of groups are told by their levels.
+    // The places of groups depend on the levels of those groups alone.
     ghost told: { Places.Told N cell };
 
-    // A place of a later group is one of its own sixteen lanes.
+    // A place of a later group depends on that group's lanes as the first group's place on its own.
     ghost shifts: { Places.Shifts N cell };
 
     // So the places of four groups can be counted.

@@ -1,5 +1,5 @@
-// Spare lanes: those of the last group that are no voices are made silent, so that they need not be
-// told from voices where rows are drawn.
+// Spare lanes: those of the last group that are no voices are made silent, so that drawing treats all
+// lanes of a group alike.
 ghost use Rattle.std.specs.Prelude.{min};
 ghost use Rattle.memory.specs.Memory as Memory;
 ghost use Rattle.rows.specs.Rows as Rows;

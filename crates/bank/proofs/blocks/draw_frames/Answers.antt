@@ -1,4 +1,6 @@
--- `draw_frames`: a run more is drawn and passed (`going_more`), within the output and within every segment.
+-- `draw_frames`: the invariant holds once the spare lanes are cleared (`going_none`), and a run keeps it (`going_more`), since it lies within the
+-- output and within every segment. A run has at least one frame (`run_of`), so that fewer are left each time; when none is left, the invariant is the
+-- statement.
 use mathlib.Core.Path.{◌≡◌, sym, ap, ◌∙◌, subst}
 use Prim.Native.Nat.{ℕ, ◌+◌, ◌*◌, ◌≤◌, min}
 use native.Mathlib.Omega.{arith}

@@ -1,4 +1,5 @@
--- `draw_frames`: so many frames have passed and been shown (`Going`), of a bank whose spare lanes were cleared.
+-- `draw_frames`: run after run. Invariant (`Going`): from the arrays with their spare lanes cleared, `done` frames have passed, and their rows are in
+-- the output, which is otherwise as it was. Measure: the frames left.
 use Prim.Native.Nat.{◌-◌, ◌≤◌}
 use Rattle.bank.specs.Frames.{Going}
 use Rattle.bank.proofs.blocks.draw_frames.Given as goal

@@ -1,5 +1,5 @@
--- `follow`: from one voice that ended to the next. The one at hand is followed (`next-followed`), and those up to the next have not ended, so they
--- stay (`next-found`).
+-- `follow`: the search finds the first voice that has ended, or none. An iteration follows that voice (`next-followed`); those up to the next one
+-- found have not ended, so that following them changes nothing (`next-found`). The next one is past it, so that fewer voices are left each time.
 use mathlib.Core.Path.{◌≡◌, subst}
 use Prim.Native.Nat.{ℕ, ◌+◌}
 use native.Mathlib.Omega.{arith}

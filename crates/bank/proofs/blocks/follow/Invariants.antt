@@ -1,4 +1,5 @@
--- `follow`: from one voice that ended to the next. Invariant: the voices before v have been followed, and v has ended if it is a voice (`Following`).
+-- `follow`: from one voice that has ended to the next. Invariant (`Following`): the voices before v have been followed, every other number is as it
+-- was, and v is either the next voice that has ended or the number of voices. Measure: the voices from v on.
 use Prim.Native.Nat.{◌-◌}
 use Rattle.bank.proofs.Runs.{Following}
 use Rattle.bank.proofs.blocks.follow.Given as goal

@@ -1,5 +1,6 @@
--- `pass`: a run after it was drawn. Where nothing is timed, nothing is counted (`none-timed`); where the run is shorter than any segment, none ends
--- (`none-ended`); else counting down and `follow` are two changes of every voice, one after the other (`spread_then`).
+-- `pass`, by cases. Nothing is timed: nothing is counted, and that changes no voice (`none-timed`). The run is shorter than every segment: it is
+-- counted down, and none ends (`none-ended`). It reaches an end: counting down and `follow` are two changes of every voice, one after the other
+-- (`spread_then`).
 use mathlib.Core.Path.{sym, ◌∙◌}
 use Prim.Native.Nat.{◌<◌}
 use native.Mathlib.Omega.{arith}

@@ -1,4 +1,4 @@
--- `with_all`: voice after voice, of which one more is changed by `spread_more`; once it was all of them, the bank is changed (`spread_all`).
+-- `with_all`: an iteration changes one voice more (`spread_more`); once it was all of them, the bank is changed (`spread_all`).
 use mathlib.Core.Path.{◌≡◌, refl, subst}
 use Prim.Native.Nat.{◌<◌}
 use native.Mathlib.Omega.{arith}

@@ -1,4 +1,4 @@
--- `fill`: voice after voice, each stored in a place that there is; one more of them is `spread_more`.
+-- `fill`: an iteration stores one voice more (`spread_more`), for which there is room; after all of them the invariant is the statement.
 use mathlib.Core.Path.{◌≡◌, refl, subst}
 use Prim.Native.Nat.{ℕ, ◌<◌}
 use native.Mathlib.Omega.{arith}

@@ -1,5 +1,5 @@
--- `Passed::record`: one record's tests. What it says is read first, then its own refusal is first (`judged-own`), then room for its frames; the code
--- divides where the definition multiplies, since a product might overflow, and `found_full` and `found-room` equate the two tests.
+-- `Passed::record`: each return is a case of the definition, in its order: a record that cannot be read, an event that is refused by its own number
+-- (`judged-own`), one without room for its frames (`found_full`), and one that passes (`found-room`).
 use mathlib.Core.Path.{sym, ap, ◌∙◌}
 use Prim.Native.Nat.{ℕ}
 use native.Mathlib.Omega.{arith}

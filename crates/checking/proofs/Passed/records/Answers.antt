@@ -1,5 +1,6 @@
--- `Passed::records`: record after record. Invariant: it has not passed more than the output holds (`Held`), and the records that are left, as many
--- as the definition still has turns for, come to what all of them come to; measure: the bytes left.
+-- `Passed::records`: the invariant holds before the first record (`left_all`), and a record that is accepted keeps it (`left_one`). One that is
+-- refused refuses the whole list (`left_refused`), and at the list's end nothing is left (`left_none`). An accepted record is past the one before it
+-- (`at-past`), so that fewer bytes are left each time.
 use mathlib.Core.Path.{ap, ◌∙◌}
 use Prim.Native.Nat.{ℕ}
 use native.Mathlib.Omega.{arith}

@@ -1,5 +1,5 @@
--- `Passed::records`: record after record. Invariant: it has not passed more than the output holds (`Held`), and the records that are left, as many
--- as the definition still has turns for, come to what all of them come to; measure: the bytes left.
+-- `Passed::records`: record after record. Invariant (`Left`): there are at most 64 voices and the output holds the frames so far, and the
+-- definition's check, run from here with steps enough for the bytes left, comes to what it comes to from the first record. Measure: the bytes left.
 use Prim.Native.Nat.{◌-◌}
 use lib.ListN.{length}
 use Rattle.checking.proofs.Passing.{Left}

@@ -1,4 +1,4 @@
--- `at`: the definition's operations in their order.
+-- `at`: the sum, the product and the quotient are the definition's, by what `progress` and `of_u64` ensure.
 use Rattle.curve.specs.Curves.{at}
 use Rattle.curve.proofs.curves.at.Goals as goal
 

@@ -1,4 +1,4 @@
--- `bend`: the definition's operations in their order.
+-- `bend`: the products and the difference are the definition's, by what `unit` and `widen` ensure, and so are the code's numbers (`of_bits`).
 use lib.Ieee.{of_bits}
 use Rattle.curve.specs.Curves.{bend}
 use Rattle.curve.proofs.curves.bend.Goals as goal

@@ -1,4 +1,4 @@
--- `progress`: straight or bent, each return the definition's case, with E for `exp_m1`.
+-- `progress`: by the test for a bend of 0, each return is the definition's case, by what `exp_m1` ensures.
 use lib.Ieee.{of_bits}
 use Rattle.curve.specs.Curves.{progress}
 use Rattle.curve.proofs.curves.progress.Goals as goal

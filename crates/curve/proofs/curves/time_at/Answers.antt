@@ -1,4 +1,4 @@
--- `time_at`: straight or bent, each return the definition's case.
+-- `time_at`: by the test for a bend of 0, each return is the definition's case, by what `clamp`, `exp_m1` and `ln_1p` ensure.
 use lib.Ieee.{of_bits}
 use Rattle.curve.specs.Curves.{time_at}
 use Rattle.curve.proofs.curves.time_at.Goals as goal

@@ -1,4 +1,4 @@
--- `run_length`: each return is the definition's case.
+-- `run_length`: by the test for an untimed segment, each return is the definition's case.
 use Rattle.std.proofs.Common.{eq-eqb, ne_eqb, arith}
 use Rattle.curve.specs.Segments.{run_length, untimed}
 use Rattle.curve.proofs.segments.run_length.Goals as goal

@@ -1,4 +1,4 @@
--- `draw`: one more level is written and those before it stay (`below_more`), and u has taken one more step (`u_next`).
+-- `draw`: an iteration writes one level more, and those before it stay (`below_more`); u has taken one step more (`u_next`).
 use Rattle.std.proofs.Common.{◌<◌, ◌≢◌, length, arith, get_or-set_other, get_or-set_same, below_more}
 use Rattle.curve.proofs.Steps.{u_next}
 use Rattle.envelope.proofs.drawing.draw.Goals as goal

@@ -1,4 +1,4 @@
--- `draw`: the levels up to the index are written, and u has stepped as often.
+-- `draw`: level after level. Invariant: the levels before the index are the segment's, and u has taken as many steps.
 use Rattle.std.proofs.Common.{◌≡◌, ℕ, ◌<◌, get_or}
 use Rattle.std.specs.Float.{nan}
 use Rattle.curve.specs.Segments.{u_after}

@@ -1,5 +1,5 @@
--- `find`: stage after stage. A stage is skipped (`find_skips`) until one holds (`find-holds`) or has samples left (`find-timed`); after a timed stage
--- fewer of them are left (`timed-next`).
+-- `find`: an iteration skips a stage (`find_skips`); the search ends at an untimed stage (`find-holds`) or at one with samples left (`find-timed`).
+-- After a timed stage fewer timed ones are left (`timed-next`).
 use mathlib.Core.Path.{refl, sym, ◌∙◌}
 use native.Mathlib.Omega.{arith}
 use Rattle.lane.proofs.Finding.{timed-next, find-holds, find-timed, find_skips}

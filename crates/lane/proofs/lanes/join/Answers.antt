@@ -1,4 +1,5 @@
--- `join`: the attack's arm has a callee; the other stages have the definition's one clause.
+-- `join`: an attack is what `join_attack` ensures; each other stage has a clause of its own in the definition, and all of them say the same (`other`,
+-- by cases).
 use mathlib.Core.Path.{◌≡◌, refl}
 use lib.Ieee.{Float}
 use Rattle.settings.specs.declared.settings.EnvelopeParams.{EnvelopeParams}

@@ -1,4 +1,6 @@
--- `replanned`: each return is a case of `replan`, kept, held, over or begun anew, under the tests that the definition makes in the same order.
+-- `replanned`: each return is a case of `replan`, under the tests that the definition makes in the same order: nothing is changed, an untimed stage
+-- has its new level, a stage whose new time has passed is followed by the next, or the rest has a new curve. The derived `==` is the definition's
+-- comparison (`equal`).
 use mathlib.Core.Bool.{◌&&◌}
 use mathlib.Core.Path.{◌≡◌, sym, ◌∙◌}
 use lib.Dec.{eqb}

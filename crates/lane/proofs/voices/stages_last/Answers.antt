@@ -1,5 +1,5 @@
--- `stages_last`: stage after stage. A timed stage is the next term of the definition's sum (`last-timed`), and from one that holds on nothing is
--- added (`last-holds`).
+-- `stages_last`: the length of a timed stage is the next term of the definition's sum (`last-timed`), and from an untimed stage on nothing is added
+-- (`last-holds`). A sum that saturates at each step is the sum saturated once (`more`).
 use mathlib.Core.Path.{◌≡◌, sym, ◌∙◌}
 use Prim.Native.Nat.{ℕ, suc, ◌+◌, ◌≤◌}
 use native.Mathlib.Nat.{le_refl, zero-add}

@@ -1,4 +1,5 @@
--- `stages_last`: stage after stage. Invariant: the sum so far and the stages left give the sum of all of them. Fewer timed stages are left each time.
+-- `stages_last`: stage after stage. Invariant: the sum so far is a u64, and with the lengths of the stages from the present one on it is the sum of
+-- all of them. Measure: the timed stages from the present one on.
 use mathlib.Core.Path.{◌≡◌}
 use Prim.Native.Nat.{◌+◌, ◌≤◌}
 use Rattle.numbers.specs.Counts.{held}
@@ -6,7 +7,6 @@ use Rattle.lane.specs.Readings.{last_from}
 use Rattle.settings.specs.Stages.{timed_stages}
 use Rattle.lane.proofs.voices.stages_last.Given as goal
 
--- The sum so far, and what is left of the definition, give the answer.
 abbrev pub invariant-loop-p : goal.invariant-loop-p
 invariant-loop-p l =
     (l.sum ≤ 18446744073709551615)

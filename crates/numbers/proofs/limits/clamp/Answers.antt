@@ -1,4 +1,4 @@
--- `clamp`: each return is a case of the definition.
+-- `clamp`: by its two tests, which are the definition's, each return is a case of it.
 use Rattle.numbers.specs.Limits.{clamp}
 use Rattle.numbers.proofs.limits.clamp.Goals as goal
 

@@ -1,4 +1,5 @@
--- `exp_m1`, two loops that take the steps of E's definition. Invariant of each: what is left of the definition, run from the present value, gives E(z).
+-- `exp_m1`: an iteration of the first loop is a term of the series (`series_step`), one of the second a doubling (`doublings_step`). When no term is
+-- left, the second loop's invariant is the first's (`series_done`); when no doubling is left, y is E(z) (`doublings_done`).
 use Rattle.std.proofs.Common.{◌+◌, ◌-◌, sym, ap, ◌∙◌, arith}
 use lib.Ieee.{Float, binary64, mul}
 use Rattle.numbers.specs.StandIns.{doublings}

@@ -1,4 +1,5 @@
--- `exp_m1`, two loops that take the steps of E's definition. Invariant of each: what is left of the definition, run from the present value, gives E(z).
+-- `exp_m1`, two loops that take the steps of E's definition. Invariant of the first: the terms that are left, run from t, and then w times them and
+-- six doublings give E(z). Of the second: the doublings that are left, run from y, give E(z).
 use Rattle.std.proofs.Common.{◌≡◌, ◌-◌}
 use lib.Ieee.{binary64, mul}
 use Rattle.numbers.specs.StandIns.{exp_series, doublings, exp_m1}

@@ -1,5 +1,5 @@
--- `ln_of`: the series by Horner's rule. Invariant: the n terms left, run from the present value, give the whole series. A step is `series_step`; the
--- factors after the loop are the definition's (`ln_of_is`).
+-- `ln_of`: an iteration is a term of the series (`series_step`). When none is left (`series_done`), the factors after the loop are the definition's
+-- (`ln_of_is`).
 use Rattle.std.proofs.Common.{◌-◌, ◌∙◌, arith, w32, rules}
 use lib.Ieee.{nan_bits}
 use mir.ValLaws.{to_z-of_z}

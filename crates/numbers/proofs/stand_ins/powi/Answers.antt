@@ -1,5 +1,5 @@
--- `powi`: square and multiply, from the bit below the highest one bit down. Invariant: `pow_bits` of the bits left, from the present product on, is
--- the power. A step with and without the multiplication is `pow_step`.
+-- `powi`: at first the bits below the highest one bit are left (`highest`). An iteration, with and without the second product, is `pow_step`; when no
+-- bit is left, the product is the power (`pow_done`).
 use Rattle.std.proofs.Common.{◌-◌, true, false, refl, ◌∙◌, arith, eq-eqb, ne_eqb}
 use Rattle.numbers.specs.StandIns as StandIns
 use Rattle.numbers.proofs.Powers.{highest, pow_step, pow_done}

@@ -1,4 +1,5 @@
--- `all`, a loop without early exit. Invariant: if the flag is still set, the first i numbers pass the test. Nothing is claimed where it is not set.
+-- `all`: number after number, without an early exit. Invariant: if the flag is still set, the first i numbers pass the test. Nothing is claimed where
+-- it is not set.
 use Rattle.std.proofs.Common.{◌≡◌, ℕ, ◌+◌, ◌<◌, true, get_or}
 use Rattle.std.specs.Float.{nan}
 use Rattle.rows.proofs.lanes.all.Given as goal

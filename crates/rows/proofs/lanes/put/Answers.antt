@@ -1,4 +1,4 @@
--- `put`. Invariant: the first i are stored, and every other element is as before. A store is `filled_more`.
+-- `put`: a store is one element more (`filled_more`); after N of them the whole part is there.
 use Rattle.std.proofs.Common.{◌≡◌, ap, ◌∙◌, subst, ℕ, ◌+◌, ◌-◌, get_or, arith}
 use Rattle.std.proofs.Math.ListN.{set}
 use Rattle.std.proofs.lemmas.List.{get_or_default}

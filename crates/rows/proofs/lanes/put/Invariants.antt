@@ -1,4 +1,4 @@
--- `put`. Invariant: the first i are stored, and every other element is as before.
+-- `put`: element after element. Invariant: the first i are stored from `to` on, and every other element is as before (`Filled`).
 use Rattle.std.proofs.Common.{◌+◌, ◌-◌, get_or}
 use Rattle.filled.specs.Filled.{Filled}
 use Rattle.rows.proofs.lanes.put.Given as goal

@@ -1,5 +1,5 @@
--- `count_down`: a run is taken off what each segment has left. Invariant: it is taken off the voices so far, and the rest are as before. A step is
--- `filled_more`: the count that it reads is the old one.
+-- `count_down`: an iteration takes the run off one count more (`filled_more`); the count that it reads is the old one, since the iterations before it
+-- wrote others.
 use Rattle.std.proofs.Common.{◌≡◌, ◌∙◌, ap, ℕ, take, get_or, get_or-take, length-take, arith}
 use Rattle.filled.proofs.Filling.{filled_more}
 use Rattle.rows.specs.Runs.{left_after}

@@ -1,5 +1,5 @@
--- `count_down`: a run is taken off what each segment has left. Invariant: it is taken off the voices so far, and the rest are as before. A step is
--- `filled_more`: the count that it reads is the old one.
+-- `count_down`: voice after voice. Invariant: the run is taken off what the segments so far have left, and every other number is as before
+-- (`Filled`).
 use Rattle.filled.specs.Filled.{Filled}
 use Rattle.memory.specs.Memory.{left_at}
 use Rattle.rows.specs.Runs.{left_after}

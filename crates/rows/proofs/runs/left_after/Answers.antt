@@ -1,4 +1,4 @@
--- `left_after`: an untimed segment stays so, and a timed one loses the run and stops at 0. Each return is a case of the definition `left_after`.
+-- `left_after`: an untimed segment stays so, and a timed one loses the run and stops at 0: by the test, each return is a case of the definition.
 use Rattle.std.proofs.Common.{rules}
 use Rattle.rows.specs.Runs.{left_after}
 use Rattle.rows.proofs.runs.left_after.Goals as goal

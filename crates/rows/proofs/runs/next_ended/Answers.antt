@@ -1,5 +1,4 @@
--- `next_ended`: the first voice from `first` on whose segment has ended. Invariant: the search from v on has the answer of the search from `first`
--- on. A step is `next_on`.
+-- `next_ended`: an iteration passes a voice that has not ended, and the definition's search from it on is that from the next one on (`next_on`).
 use Rattle.std.proofs.Common.{◌≡◌, ap, ◌∙◌, ℕ, ◌+◌, ◌-◌, ◌<◌, arith}
 use Rattle.rows.specs.Runs as Runs
 use Rattle.rows.proofs.WithinRuns.{next_on}

@@ -1,5 +1,5 @@
--- `next_ended`: the first voice from `first` on whose segment has ended. Invariant: the search from v on has the answer of the search from `first`
--- on. A step is `next_on`.
+-- `next_ended`: voice after voice. Invariant: v is at most the number of voices, or `first` if that is more, and the definition's search from v on
+-- has the answer of the search from `first` on.
 use Rattle.std.proofs.Common.{◌≡◌, ◌-◌, ◌≤◌, max}
 use Rattle.rows.specs.Runs as Runs
 use Rattle.rows.proofs.runs.next_ended.Given as goal

@@ -1,4 +1,4 @@
--- `until_end`: the frames until the first segment ends. Invariant: `run` is `until_end` of the voices so far. A step is the definition's own clause.
+-- `until_end`: the minimum with one count more is the clause of the definition, once the slice's element is the array's.
 use Rattle.std.proofs.Common.{◌≡◌, take, get_or-take, length-take, add-one, arith, get_or}
 use Rattle.rows.proofs.runs.until_end.Goals as goal
 

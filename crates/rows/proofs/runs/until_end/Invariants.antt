@@ -1,4 +1,4 @@
--- `until_end`: the frames until the first segment ends. Invariant: `run` is `until_end` of the voices so far. A step is the definition's own clause.
+-- `until_end`: voice after voice. Invariant: `run` is the definition's `until_end` of the voices so far.
 use Rattle.std.proofs.Common.{◌≡◌}
 use Rattle.rows.specs.Runs as Runs
 use Rattle.rows.proofs.runs.until_end.Given as goal

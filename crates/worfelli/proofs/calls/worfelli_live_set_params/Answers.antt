@@ -1,4 +1,5 @@
--- `worfelli_live_set_params`: by whether each code is named, as `answer` has it.
+-- `worfelli_live_set_params`: with every code named, what the bank's own `set_params` ensures of the settings; else 10, and the bank is not called.
+-- These are the two cases of `answer`.
 use mathlib.Core.Path.{refl, ap, ◌∙◌}
 use Rattle.settings.specs.Refusals.{number}
 use Rattle.worfelli.specs.Live.{answer}

@@ -1,4 +1,5 @@
--- `worfelli_live_trigger`: by whether each code is named, as `answer` has it.
+-- `worfelli_live_trigger`: with every code named, what the bank's own `trigger` ensures of the trigger; else 10, and the bank is not called. These
+-- are the two cases of `answer`.
 use mathlib.Core.Path.{refl, ap, ◌∙◌}
 use Rattle.settings.specs.Refusals.{number}
 use Rattle.worfelli.specs.Live.{answer}

@@ -1,4 +1,5 @@
--- `worfelli_live_is_idle`: what the bank's reading replies, and leaves behind the pointer as a code (`behind`).
+-- `worfelli_live_is_idle`: its number is that of the reply to the bank's own reading; an accepted one stores the value as a code, and a refused one
+-- leaves what was there (`behind`).
 use mathlib.Core.Path.{◌≡◌, refl}
 use mathlib.Core.Bool.{Bool, true, false}
 use Prim.Native.Nat.{ℕ}

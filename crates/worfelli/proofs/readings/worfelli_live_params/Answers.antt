@@ -1,4 +1,5 @@
--- `worfelli_live_params`: of each kind of reply, its number and what is left of the two arrays.
+-- `worfelli_live_params`: by the reply to the bank's own reading. An accepted one puts the settings into the two arrays, and a refused one leaves
+-- both as they were.
 use mathlib.Core.Path.{sym, ap, ◌∙◌}
 use Rattle.bank.specs.Replies.{Reply, of_reading}
 use Rattle.worfelli.specs.Told.{refusal, numbers, codes}

@@ -1,4 +1,5 @@
--- `worfelli_live_tail`: what the bank's reading replies, and leaves behind the pointer (`behind`).
+-- `worfelli_live_tail`: its number is that of the reply to the bank's own reading; an accepted one stores the value, and a refused one leaves what
+-- was there (`behind`).
 use mathlib.Core.Path.{refl}
 use Rattle.bank.specs.Replies.{Reply}
 use Rattle.worfelli.specs.Told.{refusal, number}

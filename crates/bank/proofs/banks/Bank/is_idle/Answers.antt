@@ -1,4 +1,5 @@
--- `is_idle`: no such voice is refused (`reading_missing`); else it is the test of the stage that stands there (`reading_present`).
+-- `is_idle`: where there is no such voice it is refused (`reading_missing`); else the answer is the test of the stage in the arrays, which is the
+-- bank's (`reading_present`).
 use mathlib.Core.Path.{refl, ap, ◌∙◌}
 use Prim.Native.Nat.{◌<◌}
 use native.Mathlib.Omega.{arith}

@@ -1,5 +1,5 @@
--- `join`: where there is no voice to copy, the refusal is the same whatever the other test says (`both`); else the voice that was loaded is the
--- bank's (`voice_of_lem`), and what `with` ensures of one voice is the bank's answer (`of_one`).
+-- `join`: the code tests first for the voice to copy, the definition for the one that changes; both refuse by 2, so the number is the same (`both`).
+-- Else the voice that was loaded is the bank's (`voice_of_lem`), and what `with` ensures of one voice is the bank's answer (`of_one`).
 use mathlib.Core.Path.{◌≡◌, sym, ap, ◌∙◌}
 use native.Mathlib.Omega.{arith}
 use borrow.Author.Tests.{lt-ltb, le-ltb}

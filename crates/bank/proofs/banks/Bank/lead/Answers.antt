@@ -1,4 +1,5 @@
--- `lead`: no such voice is refused (`reading_missing`); else it is the lead of the voice and the timing that stand there (`reading_present`).
+-- `lead`: where there is no such voice it is refused (`reading_missing`); else it is `lead` of the voice and the timing in the arrays, which are the
+-- bank's (`reading_present`).
 use mathlib.Core.Path.{refl, ap, ◌∙◌}
 use Prim.Native.Nat.{◌<◌}
 use native.Mathlib.Omega.{arith}

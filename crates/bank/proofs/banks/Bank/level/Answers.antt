@@ -1,4 +1,5 @@
--- `level`: no such voice is refused (`reading_missing`); else it is the level of the segment that stands there (`reading_present`).
+-- `level`: where there is no such voice it is refused (`reading_missing`); else it is the level of the segment in the arrays, which is the bank's
+-- (`reading_present`).
 use mathlib.Core.Path.{refl, ap, ◌∙◌}
 use Prim.Native.Nat.{◌<◌}
 use native.Mathlib.Omega.{arith}

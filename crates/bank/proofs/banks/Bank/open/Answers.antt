@@ -1,5 +1,5 @@
--- `open`: refused, the arrays hold the bank of no voices (`none-opened`); else every voice was filled (`voices-opened`), and there is room for them
--- (`opened_few`).
+-- `open`: refused, the arrays hold the bank of no voices (`none-opened`); else every voice was filled (`voices-opened`), for which there is room,
+-- since an accepted bank has at most 64 (`opened_few`).
 use mathlib.Core.Path.{◌≡◌, refl, sym}
 use lib.Ieee.{of_bits}
 use Rattle.settings.specs.Settings.{amp}

@@ -1,4 +1,5 @@
--- `params`: no such voice is refused (`reading_missing`); else they are the settings that stand there (`reading_present`).
+-- `params`: where there is no such voice it is refused (`reading_missing`); else they are the settings in the arrays, which are the bank's
+-- (`reading_present`).
 use mathlib.Core.Path.{refl, ap, ◌∙◌}
 use Prim.Native.Nat.{◌<◌}
 use native.Mathlib.Omega.{arith}

@@ -1,4 +1,5 @@
--- `process`: refused, nothing is touched; else all frames that the output has room for were drawn (`process-done`).
+-- `process`: an output that is not whole frames is refused and nothing is changed (`process-refused`); else all its frames were drawn
+-- (`process-done`). There are one to four groups, so the divisor is not 0 and the stride does not overflow (`few`).
 use mathlib.Core.Path.{◌≡◌, ap, ◌∙◌}
 use Prim.Native.Nat.{ℕ, ◌*◌, ◌≤◌, min}
 use native.Mathlib.Omega.{arith}

@@ -1,4 +1,5 @@
--- `process_bytes`: refused, nothing is touched; else the frames were drawn in bytes (`bytes-done`).
+-- `process_bytes`: without room nothing is changed (`bytes-refused`); else the frames were drawn, in bytes (`bytes-done`). The code divides where
+-- `draw_frames` requires a product and the definition multiplies, since a product might overflow; the tests are the same.
 use mathlib.Core.Path.{◌≡◌, ap, ◌∙◌, subst}
 use Prim.Native.Nat.{ℕ, ◌*◌, ◌/◌, ◌≤◌, ◌<◌, min}
 use native.Mathlib.Omega.{arith}

@@ -1,4 +1,5 @@
--- `stage`: no such voice is refused (`reading_missing`); else it is the stage that stands there (`reading_present`).
+-- `stage`: where there is no such voice it is refused (`reading_missing`); else it is the stage in the arrays, which is the bank's
+-- (`reading_present`).
 use mathlib.Core.Path.{refl, ap, ◌∙◌}
 use Prim.Native.Nat.{◌<◌}
 use native.Mathlib.Omega.{arith}

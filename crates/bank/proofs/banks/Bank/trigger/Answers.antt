@@ -1,4 +1,5 @@
--- `trigger`: what `with` ensures of one voice is the bank's answer (`of_one`).
+-- `trigger`: it is `with` on one voice, and what that ensures is the bank's answer (`of_one`), since the bank's definition changes the voice in the
+-- same way.
 use mathlib.Core.Path.{refl}
 use Rattle.memory.specs.Memory.{timing_at}
 use Rattle.bank.specs.declared.changes.Change.TheVariants.{Trigger}

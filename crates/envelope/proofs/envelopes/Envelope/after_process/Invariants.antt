@@ -1,5 +1,5 @@
--- `after_process`: a block of levels, run by run. Invariant: what is written are the levels of the first `done` frames, and the voice is the one after
--- as many; measure: the levels left to write.
+-- `after_process`: a block of levels, run by run. Invariant: what is written are the levels of the first `done` frames, and the voice is the one
+-- after as many. Measure: the levels left to write.
 use Rattle.std.proofs.Common.{◌≡◌, ◌≤◌, ◌-◌, length, take}
 use Rattle.envelope.specs.Envelopes.{frames, levels}
 use Rattle.envelope.proofs.envelopes.Envelope.after_process.Given as goal

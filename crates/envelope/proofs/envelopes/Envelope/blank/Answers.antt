@@ -1,4 +1,4 @@
--- `blank`: its voice and its timing are the definition's, by what the two calls of `new` ensure.
+-- The envelope beside a refused fresh call: its voice and its timing are the definition's, by what the two calls of `new` ensure.
 use lib.Ieee.{of_bits}
 use Rattle.envelope.proofs.envelopes.Envelope.blank.Goals as goal
 

@@ -1,4 +1,4 @@
--- `advance`: the curve's next part where some is left of it, else the next stage; the test is the definition's.
+-- `advance`: by the test of the place, which is the definition's, the curve's next part or the next stage.
 use borrow.Author.Tests.{lt-ltb, le-ltb}
 use Rattle.lane.specs.Planning.{advance, moved}
 use Rattle.lane.proofs.lanes.Lane.advance.Goals as goal

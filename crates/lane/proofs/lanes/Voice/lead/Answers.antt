@@ -1,5 +1,5 @@
--- `lead`: 0 where no Sustain is ahead; else the rest of the present stage and the stages after it, whose sum held at each step is the sum held once
--- (`plain`).
+-- `lead`: 0 where no Sustain is ahead; else the rest of the present stage and the stages after it. A sum that saturates at each step is the sum
+-- saturated once (`plain`).
 use mathlib.Core.Path.{◌≡◌}
 use Prim.Native.Nat.{ℕ, ◌+◌}
 use native.Mathlib.Omega.{arith}

@@ -1,4 +1,4 @@
--- `restart_level`: the level that a sounding voice has, where the settings say so, else the start level.
+-- `restart_level`: by cases on the setting and on whether the voice sounds, the level that it has, or else the start level (`starts`).
 use mathlib.Core.Path.{◌≡◌, refl, ◌∙◌}
 use mathlib.Core.Bool.{Bool, true, false, cond}
 use lib.Ieee.{Float}

@@ -1,4 +1,4 @@
--- `levels` meets its contract. The loop's invariant: the first i levels are those of the lanes.
+-- `levels`: lane after lane. Invariant: the first i levels are those of the lanes.
 use Rattle.std.proofs.Common.{◌≡◌, ℕ, ◌<◌, length, get_or}
 use Rattle.std.specs.Float.{nan}
 use Rattle.rows.specs.Rows.{levels_at}

@@ -1,4 +1,5 @@
--- `next_row` meets its contract. The loop's invariant: the first i levels are drawn, u is one row on in the first i lanes, and the rest is as before.
+-- `next_row`: lane after lane. Invariant: the first i levels are those of the lanes, u is one row on in the first i lanes and as before in the
+-- others, and r, d, scale and base are as before.
 use Rattle.std.proofs.Common.{◌≡◌, ℕ, ◌<◌, length, get_or}
 use Rattle.std.specs.Float.{nan}
 use Rattle.filled.specs.Filled.{Filled}

@@ -1,4 +1,5 @@
--- `draw` meets its contract. The loop's invariant: the first rows, `done` of them, are drawn.
+-- `draw`: a block has at least one row, no more than are left, and fits in the output (`fits`), so that fewer rows are left each time; drawn behind
+-- the rows before it, it makes so many more (`drawn_on`).
 use Rattle.std.proofs.Common.{refl, ◌+◌, ◌*◌, ◌≤◌, length, length-take, length-drop, arith}
 use Rattle.rows.proofs.RowsDrawn.{run_fits}
 use Rattle.rows.proofs.BlocksDrawn.{block-rows, drawn_on}

@@ -1,4 +1,4 @@
--- `draw` meets its contract. The loop's invariant: the first rows, `done` of them, are drawn.
+-- `draw`: block after block. Invariant: the first `done` rows are drawn, and the output past them is as it was (`Drawn`). Measure: the rows left.
 use Rattle.std.proofs.Common.{◌-◌, ◌≤◌}
 use Rattle.rows.specs.Rows.{Drawn}
 use Rattle.rows.proofs.lanes.drawing.draw.Given as goal

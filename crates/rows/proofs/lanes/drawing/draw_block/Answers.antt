@@ -1,5 +1,5 @@
--- `draw_block` meets its contract. The loop's invariant: the first q groups are drawn. A group is drawn by whichever of the two loops the test chose:
--- `draw_still` leaves the array as it is, and rows would too, since these lanes are constant (`group_still`).
+-- `draw_block`: an iteration draws one group more (`groups_more`), by whichever of the two loops the test chose. `draw_still` leaves the array as it
+-- is, and rows would too, since these lanes are constant (`group_still`).
 use Rattle.std.proofs.Common.{◌*◌}
 use Rattle.rows.specs.Rows.{GroupDrawn}
 use Rattle.rows.proofs.GroupsDrawn.{group_still, groups_more}

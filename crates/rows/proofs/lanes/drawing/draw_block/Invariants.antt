@@ -1,4 +1,4 @@
--- `draw_block` meets its contract. The loop's invariant: the first q groups are drawn.
+-- `draw_block`: group after group. Invariant: the first q groups of every row are drawn, and what is past the rows is as it was (`GroupsDrawn`).
 use Rattle.std.proofs.Common.{◌*◌}
 use Rattle.rows.proofs.GroupsDrawn.{GroupsDrawn}
 use Rattle.rows.proofs.lanes.drawing.draw_block.Given as goal

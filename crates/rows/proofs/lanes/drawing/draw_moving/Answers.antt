@@ -1,4 +1,5 @@
--- `draw_moving` meets its contract. The loop's invariant: the first k rows are laid, and u is the lanes' after them.
+-- `draw_moving`: an iteration lays row k, whose levels are those of the array's lanes after k rows (`row-levels`, `laid_more`), and takes u one step
+-- on (`row_moved`). At the end u is put back, and the array's lanes are moved on (`group_moved`).
 use Rattle.std.proofs.Common.{◌≡◌, refl, ◌∙◌, ◌+◌, ◌*◌, get_or, arith}
 use Rattle.std.specs.Float.{nan}
 use Rattle.rows.specs.Rows.{drawn_at}

@@ -1,4 +1,5 @@
--- `draw_moving` meets its contract. The loop's invariant: the first k rows are laid, and u is the lanes' after them.
+-- `draw_moving`: row after row. Invariant: the first k rows are laid, u is the array's after k rows, and r, d, scale and base are as they were
+-- loaded.
 use Rattle.std.proofs.Common.{◌+◌}
 use Rattle.rows.specs.Rows.{drawn_at, Loaded, Laid}
 use Rattle.rows.proofs.LanesMoved.{Moved}

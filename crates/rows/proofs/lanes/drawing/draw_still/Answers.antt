@@ -1,4 +1,4 @@
--- `draw_still` meets its contract. The loop's invariant: the first k rows are laid. Each is the first, since the lanes stay.
+-- `draw_still`: an iteration lays row k (`laid_more`), which is the first row, since the lanes stay (`still-level`).
 use Rattle.std.proofs.Common.{◌≡◌, refl, ◌∙◌, ℕ, ◌+◌, ◌*◌, ◌<◌, get_or}
 use Rattle.std.specs.Float.{nan}
 use Rattle.rows.specs.Rows.{drawn_at}

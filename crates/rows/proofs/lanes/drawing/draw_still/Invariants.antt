@@ -1,4 +1,4 @@
--- `draw_still` meets its contract. The loop's invariant: the first k rows are laid. Each is the first, since the lanes stay.
+-- `draw_still`: row after row. Invariant: the first k rows are laid, and every other place is as it was (`Laid`).
 use Rattle.std.proofs.Common.{◌+◌}
 use Rattle.rows.specs.Rows.{drawn_at, Laid}
 use Rattle.rows.proofs.lanes.drawing.draw_still.Given as goal

@@ -1,5 +1,4 @@
--- `clear_spare`: the lanes of the last group that are no voices become silent. Invariant: those from the first spare lane up to w are silent, and
--- every other number is kept. The five stores of a turn are `cleared_more`.
+-- `clear_spare`: the five stores of an iteration make one lane more silent (`cleared_more`); the range ends where the last group does.
 use Rattle.std.proofs.Common.{◌≡◌, subst, ℕ, min, arith}
 use Rattle.std.specs.Float.Ieee.{of_bits}
 use Rattle.memory.specs.Memory.{max_voices}

@@ -1,5 +1,5 @@
--- `clear_spare`: the lanes of the last group that are no voices become silent. Invariant: those from the first spare lane up to w are silent, and
--- every other number is kept. The five stores of a turn are `cleared_more`.
+-- `clear_spare`: lane after lane, those of the last group that are no voices. Invariant: the lanes from the first spare one up to w are silent, and
+-- every other number is as before (`Cleared`).
 use Rattle.rows.specs.Rows.{Cleared}
 use Rattle.rows.proofs.lanes.spare.clear_spare.Given as goal
 

@@ -1,4 +1,5 @@
--- A row of bytes. The loop's invariant: the bytes of the first i levels are there. A turn is `bytes_more`.
+-- `row_of`, for bytes: an iteration puts the four bytes of level i behind those of the levels before it (`bytes_more`); std's order of the bytes is
+-- the definition's, the lowest first (`le_bytes`).
 use Rattle.std.proofs.Common.{◌≡◌, ap, ◌∙◌, inl, inr, ◌⊎◌, ℕ, ◌+◌, ◌-◌, ◌*◌, ◌/◌, ◌%◌, ◌<◌, ◌≤◌, List, get_or, w32, arith, Float}
 use Rattle.std.specs.Float.{nan, binary32}
 use Rattle.std.specs.Float.Ieee.{to_bits}

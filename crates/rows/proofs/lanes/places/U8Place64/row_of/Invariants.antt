@@ -1,4 +1,4 @@
--- A row of bytes. The loop's invariant: the bytes of the first i levels are there.
+-- `row_of`, for bytes: level after level. Invariant: the row keeps its 64 bytes, and those of the first i levels are in their places.
 use Rattle.std.proofs.Common.{◌≡◌, ℕ, ◌*◌, ◌<◌, length, get_or}
 use Rattle.std.specs.Float.{nan}
 use Rattle.rows.specs.Rows.{byte_cell}
