@@ -1,5 +1,5 @@
 -- What follows from the number that refuses a call, 0 if it is accepted: which of two values `if_accepted` gives; that a voice that an accepted call
--- names is one of the bank's (`named`); that an output of whole frames is accepted, and passes them (`whole`, `block-frames`); and that an accepted
+-- names is one of the bank's (`voice_there`); that an output of whole frames is accepted, and passes them (`whole`, `block-frames`); and that an accepted
 -- fresh bank has at most 64 voices. By cases on the tests of the definitions.
 use mathlib.Core.Path.{◌≡◌, refl, subst}
 use mathlib.Core.Bool.{Bool, true, false, cond}
@@ -14,7 +14,7 @@ use Rattle.rows.specs.Strides.{stride_of}
 use Rattle.bank.specs.declared.known.Known.{Known}
 use Rattle.bank.specs.Calls as Calls
 use Rattle.bank.specs.Calls.{Opening, opening_refusal, Call, if_accepted, refusal}
-use Rattle.bank.specs.Banks.{Bank, size, known, frames, moved, answer}
+use Rattle.bank.specs.Banks.{Bank, size, known, frames, after_accepted, answer}
 use Rattle.bank.proofs.Frames.{stride_holds}
 
 -- What comes of a number that refuses, and of 0.
@@ -27,8 +27,8 @@ if_accepted_lem zero a r e = refl
 if_accepted_lem (suc n) a r e = absurd (omega arith)
 
 -- The test for a voice was passed, and so were the later tests.
-pub named : (k : Known) (v later : ℕ) → Calls.named k v later ≡ 0 → (v < k.voices) × (later ≡ 0)
-named k v later e = go (ltb v k.voices) refl e
+pub voice_there : (k : Known) (v later : ℕ) → Calls.voice_refusal k v later ≡ 0 → (v < k.voices) × (later ≡ 0)
+voice_there k v later e = go (ltb v k.voices) refl e
   where
     go : (t : Bool) → ltb v k.voices ≡ t → cond t later 2 ≡ 0 → (v < k.voices) × (later ≡ 0)
     go true p q = (ltb-true v k.voices p, q)
@@ -40,7 +40,7 @@ unfolding refusal
 whole k a = (rw (mul-mod_left a (stride_of k.voices)), mul-div_cancel a (stride_holds k.voices).1)
 
 pub block-frames : (b : Bank) (n a : ℕ) → size b ≡ n → (answer b (Call.process (a * stride_of n))).bank ≡ frames a b
-unfolding answer moved
+unfolding answer after_accepted
 block-frames b n a e =
     subst (λ (n : ℕ). (answer b (Call.process (a * stride_of n))).bank ≡ frames a b) e (rw ((whole (known b) a).0, (whole (known b) a).1))
 

@@ -31,10 +31,10 @@ use Rattle.memory.specs.declared.arrays.Arrays.{Arrays}
 use Rattle.memory.specs.Memory.{count_of, timing_at, columns_at, floats_at, u_at, r_at, d_at, scale_at, base_at, left_at, bends_at, counts_at, codes_at, voice_of, voice_at, Same}
 use Rattle.memory.proofs.Storing.{voice-same, same_self, same_trans}
 use Rattle.rows.specs.Strides.{groups_of, stride_of}
-use Rattle.rows.specs.Rows.{moved_at, drawn_at, fitting, Cleared, Drawn}
+use Rattle.rows.specs.Rows.{u_after_rows, drawn_at, fitting, Cleared, Drawn}
 use Rattle.rows.specs.Runs.{until_end, Counts}
 use Rattle.rows.proofs.Lent.{part_before, part_at, rest-lent, rest_back}
-use Rattle.rows.specs.Places.{Told}
+use Rattle.rows.specs.Places.{ByLevels}
 use Rattle.rows.proofs.RowsDrawn.{row_fits, run_fits}
 use Rattle.rows.proofs.SpareLanes.{silent-level, silent-drawn}
 use Rattle.rows.proofs.WithinRuns.{until_end_some, until_end_inside}
@@ -43,7 +43,7 @@ use Rattle.bank.specs.Lent.{Silenced, Processed}
 use Rattle.bank.specs.Frames.{Ran, with_floats, lane_at, Shown, Going}
 use Rattle.bank.specs.Parts.{passed, Spread}
 use Rattle.bank.proofs.Frames.{frames-size, frames-timing, voice-frames}
-use Rattle.bank.proofs.Held.{size_of, voice_of_lem, timing_of_lem, held}
+use Rattle.bank.proofs.Representation.{size_of, voice_of_lem, timing_of_lem, represents}
 use Rattle.bank.proofs.Runs.{run-whole, left_of}
 
 -- ---- the arrays
@@ -99,7 +99,7 @@ module _ (n : ℕ) (few : n ≤ 64) (m : Arrays) (f' : List Float) (C : Cleared 
   -- The bank does not read them.
   pub cleared_bank : n ≡ count_of m.codes → bank_of (with_floats f' m) ≡ bank_of m
   cleared_bank e =
-      held (with_floats f' m) (bank_of m) (sym (timing_of_lem m)) (sym (size_of m))
+      represents (with_floats f' m) (bank_of m) (sym (timing_of_lem m)) (sym (size_of m))
       (λ v h. voice-same v m (with_floats f' m) (same v (omega (arith, h, e, few)) (inl (omega (arith, h, e)))) ∙ sym (voice_of_lem m v h))
 
   pub cleared_processed : n ≡ count_of m.codes → (m' : Arrays) → Processed 0 (with_floats f' m) m' → Processed 0 m m'
@@ -120,7 +120,7 @@ module _ (n : ℕ) (few : n ≤ 64) (m : Arrays) (f' : List Float) (C : Cleared 
       }
 
 -- A run is drawn: every lane of the groups has moved on.
-module _ (n run : ℕ) (few : n ≤ 64) (m : Arrays) (f' : List Float) (F : Filled nan (moved_at run m.floats) 0 (stride_of n) m.floats f') where
+module _ (n run : ℕ) (few : n ≤ 64) (m : Arrays) (f' : List Float) (F : Filled nan (u_after_rows run m.floats) 0 (stride_of n) m.floats f') where
   drawn-past : (i : ℕ) → 68 ≤ i → get_or f' i nan ≡ get_or m.floats i nan
   drawn-past i h = F.after i (omega (arith, few, h))
 
@@ -143,13 +143,13 @@ module _ (n run : ℕ) (few : n ≤ 64) (m : Arrays) (f' : List Float) (F : Fill
   drawn-voice : (v : ℕ) → v < n → voice_at (with_floats f' m) v ≡ moved_on (voice_at m v)
   unfolding voice_at
   drawn-voice v h =
-      let a : u_at f' v ≡ moved_at run m.floats v = F.inside v (omega arith) (omega (arith, h)) in
+      let a : u_at f' v ≡ u_after_rows run m.floats v = F.inside v (omega arith) (omega (arith, h)) in
       let b : r_at f' v ≡ r_at m.floats v = drawn-past (v + 68) (omega arith) in
       let c : d_at f' v ≡ d_at m.floats v = drawn-past (v + 136) (omega arith) in
       let d : scale_at f' v ≡ scale_at m.floats v = drawn-past (v + 204) (omega arith) in
       let e : base_at f' v ≡ base_at m.floats v = drawn-past (v + 272) (omega arith) in
       let g : floats_at f' v ≡ floats_at m.floats v = records_kept m.floats f' (λ i p. drawn-past i (omega (arith, p))) v in
-      let h : columns_at f' v ≡ (moved_at run m.floats v ∷ r_at m.floats v ∷ d_at m.floats v ∷ scale_at m.floats v ∷ base_at m.floats v ∷ []) = cc in
+      let h : columns_at f' v ≡ (u_after_rows run m.floats v ∷ r_at m.floats v ∷ d_at m.floats v ∷ scale_at m.floats v ∷ base_at m.floats v ∷ []) = cc in
       let made : List Float → List Float → Voice = λ fs ss. voice_of fs ss (bends_at m.bends v) (counts_at m.counts v) (codes_at m.codes v) (left_at m.codes v) in
       ap (λ (fs : List Float). made fs (columns_at f' v)) g ∙ ap (made (floats_at m.floats v)) h
 
@@ -207,7 +207,7 @@ pub ran-bank : (n : ℕ) (t : Timing) (m₀ : Arrays) (done : ℕ) (m : Arrays) 
 ran-bank n t m₀ done m e q R =
     let b = bank_of m₀ in
     let k : count_of m.codes ≡ count_of m₀.codes = ap (λ (v : ℕ). min v 64) R.voices in
-    held m (frames done b) (R.timing ∙ sym (frames-timing done b ∙ timing_of_lem m₀)) (k ∙ sym (frames-size done b ∙ size_of m₀))
+    represents m (frames done b) (R.timing ∙ sym (frames-timing done b ∙ timing_of_lem m₀)) (k ∙ sym (frames-size done b ∙ size_of m₀))
     (λ v h.
     let i : v < count_of m₀.codes = omega (arith, h, k) in
     R.voice v (omega (arith, i, e))
@@ -234,7 +234,7 @@ lane-drawn n t m₀ done m R C run within k i h l = go (split i n)
         ∙ ap (λ (v : Voice). Segments.level v.seg) (sym (frames-add t done k (voice_at m₀ i))))
     go (inr p) = rw (le-ltb i n p) (silent-level m.floats i (R.spare i p l).columns k)
 
-module _ {A : Type 0} (z : A) (wide : ℕ) (cell : (ℕ → Float) → ℕ → A) (told : Told wide cell) (groups : ℕ) (y : ℕ → ℕ → Float) where
+module _ {A : Type 0} (z : A) (wide : ℕ) (cell : (ℕ → Float) → ℕ → A) (by_levels : ByLevels wide cell) (groups : ℕ) (y : ℕ → ℕ → Float) where
   shown-none : (o : List A) → Shown z wide cell groups y 0 o o
   shown-none o = record { levels = λ k c p q. absurd (omega arith); past = λ j p. refl; long = refl }
 
@@ -257,7 +257,7 @@ module _ {A : Type 0} (z : A) (wide : ℕ) (cell : (ℕ → Float) → ℕ → A
         (subst (λ (j : ℕ). get_or back j z ≡ cell (y (done + (k - done))) c) e
         (part_at z from o p' fits ((k - done) * row + c)
         ∙ D.levels (k - done) c (omega (arith, h, p)) q
-        ∙ told groups _ _ (λ i l. E (k - done) i (omega (arith, h, p)) l) c q))
+        ∙ by_levels groups _ _ (λ i l. E (k - done) i (omega (arith, h, p)) l) c q))
 
     past-at : (j : ℕ) → (done + run) * row ≤ j → get_or back j z ≡ get_or o₀ j z
     past-at j h =
@@ -295,14 +295,14 @@ run-asked n rest end run c few some e C r =
     let k : min n 64 ≡ n = omega (arith, few) in
     (few, omega (arith, some, r, e, until_end_some (min n 64) c), omega (arith, r), subst (λ (i : ℕ). end ≡ until_end i c) k e, subst (λ (i : ℕ). Counts i c) k C)
 
-module _ {A : Type 0} (z : A) (wide : ℕ) (cell : (ℕ → Float) → ℕ → A) (told : Told wide cell) (n : ℕ) (few : n ≤ 64) (m₀ : Arrays) (o₀ : List A) where
+module _ {A : Type 0} (z : A) (wide : ℕ) (cell : (ℕ → Float) → ℕ → A) (by_levels : ByLevels wide cell) (n : ℕ) (few : n ≤ 64) (m₀ : Arrays) (o₀ : List A) where
   pub going_none : (f' : List Float) → Cleared (min n 64) (stride_of (min n 64)) m₀.floats f'
       → Going z wide cell n (with_floats f' m₀) o₀ 0 (with_floats f' m₀) o₀
   going_none f' C =
       let t = timing_at m₀.bends in
       record {
         ran = ran-none n few m₀ f' (cleared_few n few m₀.floats f' C) t;
-        shown = shown-none z wide cell told (groups_of n) (lane_at n t (with_floats f' m₀)) o₀;
+        shown = shown-none z wide cell by_levels (groups_of n) (lane_at n t (with_floats f' m₀)) o₀;
       }
 
   -- A run more, of those that there is room for.
@@ -332,7 +332,7 @@ module _ {A : Type 0} (z : A) (wide : ℕ) (cell : (ℕ → Float) → ℕ → A
             ran-more n run few m f' D'.moved t m₀ m₂ done G.ran asked.1 asked.4 within
             (subst (λ (t : Timing). Spread (passed t run) n (with_floats f' m) m₂) G.ran.timing S);
         shown =
-            shown-more z wide cell told (groups_of n) (lane_at n t m₀) done run from o₀ o p' m.floats f' G.shown at fits D'
+            shown-more z wide cell by_levels (groups_of n) (lane_at n t m₀) done run from o₀ o p' m.floats f' G.shown at fits D'
             (λ k i p q. lane-drawn n t m₀ done m G.ran asked.4 run within k i p q);
       }
     where

@@ -2,7 +2,7 @@
 pub mod Frames
 pub mod Bytes
 pub mod Accepted
-pub mod Held
+pub mod Representation
 pub mod Answers
 pub mod Replying
 pub mod Runs

@@ -13,18 +13,18 @@ use Rattle.lane.specs.declared.lanes.Voice.{Voice}
 use Rattle.envelope.specs.declared.envelopes.Envelope.{Envelope}
 use Rattle.memory.specs.declared.arrays.Arrays.{Arrays}
 use Rattle.memory.specs.Memory.{count_of, timing_at, voice_at}
-use Rattle.bank.specs.Calls.{Call, Query, named, refusal, query_refusal}
+use Rattle.bank.specs.Calls.{Call, Query, voice_refusal, refusal, query_refusal}
 use Rattle.bank.specs.Banks.{bank_of, size, known, envelope}
-use Rattle.bank.specs.Replies.{Reply, told, reply, of_reading}
-use Rattle.bank.proofs.Held.{size_of, voice_of_lem}
+use Rattle.bank.specs.Replies.{Reply, query_reply, reply, of_reading}
+use Rattle.bank.proofs.Representation.{size_of, voice_of_lem}
 
 -- Voice v of the arrays as a single envelope.
 abbrev pub envelope_at : Arrays → ℕ → Envelope
 envelope_at m v = record { voice = voice_at m v; timing = timing_at m.bends }
 
-module _ (m : Arrays) (q : Query) (v : ℕ) (names : query_refusal (known (bank_of m)) q ≡ named (known (bank_of m)) v 0) where
+module _ (m : Arrays) (q : Query) (v : ℕ) (names : query_refusal (known (bank_of m)) q ≡ voice_refusal (known (bank_of m)) v 0) where
   -- read is what the query tells of that envelope.
-  pub reading_present : (read : Envelope → Reply) → told (known (bank_of m)) (envelope (bank_of m)) q ≡ read (envelope (bank_of m) v)
+  pub reading_present : (read : Envelope → Reply) → query_reply (known (bank_of m)) (envelope (bank_of m)) q ≡ read (envelope (bank_of m) v)
       → v < count_of m.codes → read (envelope_at m v) ≡ reply (bank_of m) (Call.ask q)
   unfolding reply refusal bank_of
   reading_present read e h =

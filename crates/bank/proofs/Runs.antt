@@ -28,7 +28,7 @@ use Rattle.memory.proofs.Storing.{room, same_trans}
 use Rattle.rows.specs.Runs.{left_after, until_end, Counts, next_ended}
 use Rattle.rows.proofs.WithinRuns.{NextEnded, next-ended, before_end, no_end}
 use Rattle.bank.specs.Parts.{followed, lessened, passed, Spread}
-use Rattle.bank.proofs.Held.{spread_none, spread_more, spread_past}
+use Rattle.bank.proofs.Representation.{spread_none, spread_more, spread_past}
 
 -- ---- a voice
 

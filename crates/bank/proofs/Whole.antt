@@ -24,15 +24,15 @@ use Rattle.memory.specs.Memory.{count_of, timing_at, voice_at}
 use Rattle.memory.proofs.Storing.{same_self}
 use Rattle.rows.specs.Strides.{groups_of, stride_of}
 use Rattle.rows.specs.Rows.{float_cell, byte_cell}
-use Rattle.rows.specs.Places.{byte-told}
+use Rattle.rows.specs.Places.{byte_by_levels}
 use Rattle.rows.proofs.RowsDrawn.{row_fits}
 use Rattle.bank.specs.Calls.{Call, refusal}
-use Rattle.bank.specs.Banks.{Bank, bank_of, size, voice, frames, rows, moved, answer, written, bytes, bytes_refusal, written_bytes, after_bytes}
+use Rattle.bank.specs.Banks.{Bank, bank_of, size, voice, frames, rows, after_accepted, answer, written, bytes, bytes_refusal, written_bytes, after_bytes}
 use Rattle.bank.specs.Lent.{Processed}
 use Rattle.bank.specs.Frames.{with_floats, Ran, lane_at, Shown, Played}
 use Rattle.bank.proofs.Frames.{voice-frames, length-rows, rows_at}
 use Rattle.bank.proofs.Bytes.{length-bytes, bytes-at}
-use Rattle.bank.proofs.Held.{size_of, voice_of_lem, timing_of_lem}
+use Rattle.bank.proofs.Representation.{size_of, voice_of_lem, timing_of_lem}
 use Rattle.bank.proofs.Drawing.{cleared_few, cleared_bank, cleared_processed, ran-bank}
 
 -- A bank of n voices, and the N frames that were shown.
@@ -47,8 +47,8 @@ module _ (m₀ : Arrays) (n N : ℕ) (n-is : n ≡ count_of m₀.codes) where
   sized = size_of m₀ ∙ sym n-is
 
   -- A voice after k frames.
-  voice-due : (k i : ℕ) → i < n → voice (frames k b) i ≡ Voices.frames k t (voice_at m₀ i)
-  voice-due k i h =
+  voice_after : (k i : ℕ) → i < n → voice (frames k b) i ≡ Voices.frames k t (voice_at m₀ i)
+  voice_after k i h =
       voice-frames k b i (omega (arith, h, sized))
       ∙ ap (λ (x : Voice). Voices.frames k b.timing x) (voice_of_lem m₀ i (omega (arith, h, n-is)))
       ∙ ap (λ (t : Timing). Voices.frames k t (voice_at m₀ i)) (timing_of_lem m₀)
@@ -60,11 +60,11 @@ module _ (m₀ : Arrays) (n N : ℕ) (n-is : n ≡ count_of m₀.codes) where
       (rows_at N b k i p) q
 
   -- Lane i of row k is the definition's.
-  lane-due : (k i : ℕ) → k < N → i < stride_of n → lane_at n t m₀ k i ≡ get_or (rows N b) (k * stride_of n + i) nan
-  lane-due k i p q = go (split i n) ∙ sym (rows-lane k i p q)
+  lane-rows : (k i : ℕ) → k < N → i < stride_of n → lane_at n t m₀ k i ≡ get_or (rows N b) (k * stride_of n + i) nan
+  lane-rows k i p q = go (split i n) ∙ sym (rows-lane k i p q)
     where
       go : (i < n) ⊎ (n ≤ i) → lane_at n t m₀ k i ≡ cond (ltb i n) (Segments.level (voice (frames k b) i).seg) Constants.zero
-      go (inl h) = rw (lt-ltb i n h) (ap (λ (x : Voice). Segments.level x.seg) (sym (voice-due k i h)))
+      go (inl h) = rw (lt-ltb i n h) (ap (λ (x : Voice). Segments.level x.seg) (sym (voice_after k i h)))
       go (inr h) = rw (le-ltb i n h)
 
   long : length (rows N b) ≡ N * stride_of n
@@ -79,7 +79,7 @@ module _ (m₀ : Arrays) (n N : ℕ) (n-is : n ≡ count_of m₀.codes) where
       let e : j / s * s + j % s ≡ j = div-add-mod' j s in
       let k : j / s < N = (div-lt_iff_lt-mul pos).1 (omega (arith, h, H.long, l)) in
       let r : j % s < s = mod-lt j pos in
-      subst (λ (j : ℕ). get_or o j nan ≡ get_or (rows N b) j nan) e (H.levels (j / s) (j % s) k r ∙ lane-due (j / s) (j % s) k r))
+      subst (λ (j : ℕ). get_or o j nan ≡ get_or (rows N b) j nan) e (H.levels (j / s) (j % s) k r ∙ lane-rows (j / s) (j % s) k r))
 
   abbrev bs : List ℕ
   bs = bytes (rows N b)
@@ -105,7 +105,7 @@ module _ (m₀ : Arrays) (n N : ℕ) (n-is : n ≡ count_of m₀.codes) where
         let z : q < length (rows N b) = omega (arith, long, d, row_fits k N (16 * groups_of n) r) in
         subst (λ (j : ℕ). get_or o j 0 ≡ get_or bs j 0) e
         (H.levels k c r d
-        ∙ byte-told (groups_of n) _ _ (λ i p. lane-due k i r p) c d
+        ∙ byte_by_levels (groups_of n) _ _ (λ i p. lane-rows k i r p) c d
         ∙ sym (bytes-at (rows N b) q (c % 4) z (omega arith))
         ∙ ap (λ (n : ℕ). get_or bs n 0) i)
 
@@ -164,7 +164,7 @@ module _ (m₀ : Arrays) (o₀ : List Float) (n stride : ℕ) (n-is : n ≡ coun
 
   -- The spare lanes were cleared, then all frames passed.
   pub process-done : (m : Arrays) (o : List Float) → length o₀ % stride ≡ 0 → Played nan 16 float_cell n (length o₀ / stride) m₀ o₀ m o → Answers 0 m₀ m o₀ o
-  unfolding answer refusal written moved
+  unfolding answer refusal written after_accepted
   process-done m o z P =
       let f' = P.floats in
       let C = P.cleared in

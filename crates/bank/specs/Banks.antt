@@ -88,20 +88,20 @@ unfoldable pub new : Opening → Answer
 new o = let p = opened o in record { refusal = opening_refusal o; bank = idle p.voices p.params p.timing }
 
 -- The bank after an accepted call.
-unfoldable pub moved : Bank → Call → Bank
-moved b (Call.set_params v p) = put v (Voices.set_params b.timing p (voice b v)) b
-moved b (Call.set_all_params p) = on_all (Voices.set_params b.timing p) b
-moved b (Call.set_timing t) = on_all (Voices.replan t) (with_timing t b)
-moved b (Call.trigger v x) = put v (Voices.trigger b.timing x (voice b v)) b
-moved b (Call.release v) = put v (Voices.release b.timing (voice b v)) b
-moved b (Call.reset v) = put v (Voices.reset b.timing (voice b v)) b
-moved b (Call.join v from) = put v (voice b from) b
-moved b (Call.process len) = frames (len / stride_of (size b)) b
-moved b (Call.ask q) = b
+unfoldable pub after_accepted : Bank → Call → Bank
+after_accepted b (Call.set_params v p) = put v (Voices.set_params b.timing p (voice b v)) b
+after_accepted b (Call.set_all_params p) = on_all (Voices.set_params b.timing p) b
+after_accepted b (Call.set_timing t) = on_all (Voices.replan t) (with_timing t b)
+after_accepted b (Call.trigger v x) = put v (Voices.trigger b.timing x (voice b v)) b
+after_accepted b (Call.release v) = put v (Voices.release b.timing (voice b v)) b
+after_accepted b (Call.reset v) = put v (Voices.reset b.timing (voice b v)) b
+after_accepted b (Call.join v from) = put v (voice b from) b
+after_accepted b (Call.process len) = frames (len / stride_of (size b)) b
+after_accepted b (Call.ask q) = b
 
 -- What a call answers that may change the bank: its refusal, 0 if it is accepted, and the bank, which a refused call leaves.
 unfoldable pub answer : Bank → Call → Answer
-answer b c = record { refusal = refusal (known b) c; bank = if_accepted (refusal (known b) c) (moved b c) b }
+answer b c = record { refusal = refusal (known b) c; bank = if_accepted (refusal (known b) c) (after_accepted b c) b }
 
 -- What an output holds after a process: its rows, or what it held if that is refused.
 unfoldable pub written : Bank → List Float → List Float

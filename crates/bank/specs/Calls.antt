@@ -54,8 +54,8 @@ if_accepted zero accepted refused = accepted
 if_accepted (suc n) accepted refused = refused
 
 -- 2: no such voice; else what the later tests say.
-abbrev pub named : Known → ℕ → ℕ → ℕ
-named k v later = cond (ltb v k.voices) later 2
+abbrev pub voice_refusal : Known → ℕ → ℕ → ℕ
+voice_refusal k v later = cond (ltb v k.voices) later 2
 
 -- 1, 4 and 3: over 64 voices, a rate over its limit, a time over its limit.
 unfoldable pub opening_refusal : Opening → ℕ
@@ -66,23 +66,23 @@ unfoldable pub opened : Opening → Opening
 opened o = if_accepted (opening_refusal o) o (opening 0 amp (Clock.new Constants.zero))
 
 unfoldable pub query_refusal : Known → Query → ℕ
-query_refusal k (Query.params v) = named k v 0
-query_refusal k (Query.stage v) = named k v 0
-query_refusal k (Query.level v) = named k v 0
-query_refusal k (Query.is_idle v) = named k v 0
-query_refusal k (Query.tail v) = named k v 0
-query_refusal k (Query.lead v) = named k v 0
+query_refusal k (Query.params v) = voice_refusal k v 0
+query_refusal k (Query.stage v) = voice_refusal k v 0
+query_refusal k (Query.level v) = voice_refusal k v 0
+query_refusal k (Query.is_idle v) = voice_refusal k v 0
+query_refusal k (Query.tail v) = voice_refusal k v 0
+query_refusal k (Query.lead v) = voice_refusal k v 0
 query_refusal k Query.voices = 0
 query_refusal k Query.stride = 0
 
 -- The refusal of a call after what is known, 0 if it is accepted.
 unfoldable pub refusal : Known → Call → ℕ
-refusal k (Call.set_params v p) = named k v (Refusals.params p)
+refusal k (Call.set_params v p) = voice_refusal k v (Refusals.params p)
 refusal k (Call.set_all_params p) = Refusals.params p
 refusal k (Call.set_timing t) = Refusals.timing t
-refusal k (Call.trigger v x) = named k v 0
-refusal k (Call.release v) = named k v 0
-refusal k (Call.reset v) = named k v 0
-refusal k (Call.join v from) = named k v (named k from 0)
+refusal k (Call.trigger v x) = voice_refusal k v 0
+refusal k (Call.release v) = voice_refusal k v 0
+refusal k (Call.reset v) = voice_refusal k v 0
+refusal k (Call.join v from) = voice_refusal k v (voice_refusal k from 0)
 refusal k (Call.process len) = cond (eqb (len % stride_of k.voices) 0) 0 5
 refusal k (Call.ask q) = query_refusal k q

@@ -9,7 +9,7 @@ use Rattle.memory.specs.Memory.{count_of, voices_at, timing_at, voice_at}
 use Rattle.rows.specs.Runs.{left_after}
 use Rattle.bank.specs.declared.changes.Change.{Change}
 use Rattle.bank.specs.declared.changes.Change.TheVariants.{Params, Replan, Trigger, Release, Reset, Join, Follow}
-use Rattle.bank.specs.Calls.{if_accepted, named}
+use Rattle.bank.specs.Calls.{if_accepted, voice_refusal}
 use Rattle.bank.specs.Banks.{bank_of, known, voice, put, on_all}
 use Rattle.bank.specs.Lent.{Kept, KeptFrom}
 
@@ -32,7 +32,7 @@ pub record Spread (g : Voice → Voice) (e : ℕ) (m m' : Arrays) : Type 0 where
 
 -- A call on the voice v, whose refusal is r.
 pub record One (v : ℕ) (g : Voice → Voice) (r : ℕ) (m m' : Arrays) : Type 0 where
-  pub refusal : r ≡ named (known (bank_of m)) v 0
+  pub refusal : r ≡ voice_refusal (known (bank_of m)) v 0
   pub bank : bank_of m' ≡ if_accepted r (put v (g (voice (bank_of m) v)) (bank_of m)) (bank_of m)
   pub kept : Kept r m m'
 

@@ -22,39 +22,39 @@ pub data Reply : Type 0 where
   count : ℕ → Reply
 
 -- What an accepted reading answers, where e gives the envelope of a voice.
-unfoldable pub told : Known → (ℕ → Envelope) → Query → Reply
-told k e (Query.params v) = Reply.params (Envelopes.params (e v))
-told k e (Query.stage v) = Reply.stage (Envelopes.stage (e v))
-told k e (Query.level v) = Reply.level (Envelopes.level (e v))
-told k e (Query.is_idle v) = Reply.is_idle (Envelopes.is_idle (e v))
-told k e (Query.tail v) = Reply.count (Envelopes.tail (e v))
-told k e (Query.lead v) = Reply.count (Envelopes.lead (e v))
-told k e Query.voices = Reply.count k.voices
-told k e Query.stride = Reply.count (stride_of k.voices)
+unfoldable pub query_reply : Known → (ℕ → Envelope) → Query → Reply
+query_reply k e (Query.params v) = Reply.params (Envelopes.params (e v))
+query_reply k e (Query.stage v) = Reply.stage (Envelopes.stage (e v))
+query_reply k e (Query.level v) = Reply.level (Envelopes.level (e v))
+query_reply k e (Query.is_idle v) = Reply.is_idle (Envelopes.is_idle (e v))
+query_reply k e (Query.tail v) = Reply.count (Envelopes.tail (e v))
+query_reply k e (Query.lead v) = Reply.count (Envelopes.lead (e v))
+query_reply k e Query.voices = Reply.count k.voices
+query_reply k e Query.stride = Reply.count (stride_of k.voices)
 
 -- What an accepted call answers, where e gives the envelope of a voice, and drawn the rows of so many frames.
-abbrev pub answered : Known → (ℕ → Envelope) → (ℕ → List Float) → Call → Reply
-answered k e drawn (Call.set_params v p) = Reply.done
-answered k e drawn (Call.set_all_params p) = Reply.done
-answered k e drawn (Call.set_timing t) = Reply.done
-answered k e drawn (Call.trigger v x) = Reply.done
-answered k e drawn (Call.release v) = Reply.done
-answered k e drawn (Call.reset v) = Reply.done
-answered k e drawn (Call.join v from) = Reply.done
-answered k e drawn (Call.process len) = Reply.wrote (drawn (len / stride_of k.voices))
-answered k e drawn (Call.ask q) = told k e q
+abbrev pub accepted_reply : Known → (ℕ → Envelope) → (ℕ → List Float) → Call → Reply
+accepted_reply k e drawn (Call.set_params v p) = Reply.done
+accepted_reply k e drawn (Call.set_all_params p) = Reply.done
+accepted_reply k e drawn (Call.set_timing t) = Reply.done
+accepted_reply k e drawn (Call.trigger v x) = Reply.done
+accepted_reply k e drawn (Call.release v) = Reply.done
+accepted_reply k e drawn (Call.reset v) = Reply.done
+accepted_reply k e drawn (Call.join v from) = Reply.done
+accepted_reply k e drawn (Call.process len) = Reply.wrote (drawn (len / stride_of k.voices))
+accepted_reply k e drawn (Call.ask q) = query_reply k e q
 
 -- What a call replies after what is known.
-abbrev pub replied : Known → (ℕ → Envelope) → (ℕ → List Float) → Call → Reply
-replied k e drawn c = if_accepted (refusal k c) (answered k e drawn c) (Reply.refused (refusal k c))
+abbrev pub reply_from : Known → (ℕ → Envelope) → (ℕ → List Float) → Call → Reply
+reply_from k e drawn c = if_accepted (refusal k c) (accepted_reply k e drawn c) (Reply.refused (refusal k c))
 
 -- What a bank replies to a call.
 unfoldable pub reply : Bank → Call → Reply
-reply b c = replied (known b) (envelope b) (λ n. rows n b) c
+reply b c = reply_from (known b) (envelope b) (λ n. rows n b) c
 
 -- ---- a reading's answer, in document 01's numbers and values
 
 -- What it told, or the refusal.
 unfoldable pub of_reading : {A : Type 0} → (A → Reply) → Result A Refusal → Reply
-of_reading told (Ok x) = told x
-of_reading told (Err r) = Reply.refused (number r)
+of_reading wrap (Ok x) = wrap x
+of_reading wrap (Err r) = Reply.refused (number r)

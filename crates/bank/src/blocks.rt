@@ -65,7 +65,7 @@ fn draw_frames<P: Place<N>, const N: usize>(
 )
     requires few { voices ≤ Memory.max_voices }
     requires room { frames * (N * Strides.groups_of voices) ≤ length out.old }
-    ensures { Frames.Played P.blank N P.cell voices frames m.old out.old m.new out.new }
+    ensures { Frames.Played P.past_end N P.cell voices frames m.old out.old m.new out.new }
 {
     let row = N * rows::groups(voices);
     rows::clear_spare(&mut m.floats, voices);

@@ -19,7 +19,7 @@ pub struct Known {
 impl Known {
     // Whether a call that names this voice is accepted.
     pub fn check_voice(self, voice: usize) -> Result<(), Refusal>
-        ensures { Refusals.number_of result ≡ Calls.named self voice 0 }
+        ensures { Refusals.number_of result ≡ Calls.voice_refusal self voice 0 }
     {
         if voice < self.voices {
             return Ok(());

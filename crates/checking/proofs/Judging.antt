@@ -16,11 +16,11 @@ use Rattle.settings.specs.Refusals as Refusals
 use Rattle.events.specs.declared.Event.{Event}
 use Rattle.bank.proofs.Accepted.{if_refused}
 use Rattle.bank.proofs.Frames.{stride_holds}
-use Rattle.checking.specs.Deeds.{Deed, opens, calls, deed, own_refusal, known_after, frames_of}
+use Rattle.checking.specs.Actions.{Action, opens, calls, action, own_refusal, known_after, frames_of}
 use Rattle.checking.specs.Checks.{Checked, refused_at, passed, judged}
 
 abbrev pub own : Checked → Event → ℕ
-own c e = own_refusal c.known (deed c.known e)
+own c e = own_refusal c.known (action c.known e)
 
 module _ (room : ℕ) (c : Checked) (e : Event) (next : ℕ) where
   pub judged-own : (n : ℕ) → n ≡ own c e → (n ≡ 0 → ⊥) → refused_at n c ≡ judged room c e next
@@ -36,7 +36,7 @@ module _ (room : ℕ) (c : Checked) (e : Event) (next : ℕ) where
   judged-passed z h = rw (z, le-ltb room _ h)
 
 -- An open of more than 64 voices is refused; no other event changes their number.
-after_few : (k : Known) (d : Deed) → k.voices ≤ max_voices → own_refusal k d ≡ 0 → (known_after k d).voices ≤ max_voices
+after_few : (k : Known) (d : Action) → k.voices ≤ max_voices → own_refusal k d ≡ 0 → (known_after k d).voices ≤ max_voices
 unfolding known_after own_refusal opening_refusal
 after_few k (opens o) h z = go (ltb max_voices o.voices) refl z
   where
@@ -46,7 +46,7 @@ after_few k (opens o) h z = go (ltb max_voices o.voices) refl z
 after_few k (calls c) h z = h
 
 pub passed_few : (c : Checked) (e : Event) (next : ℕ) → c.known.voices ≤ max_voices → own c e ≡ 0 → (passed c e next).known.voices ≤ max_voices
-passed_few c e next h z = after_few c.known (deed c.known e) h z
+passed_few c e next h z = after_few c.known (action c.known e) h z
 
 -- What the code finds is known after the event, its frames and the stride; and its test: a quotient, since a product might be too large.
 module _ (room : ℕ) (c : Checked) (e : Event) (next : ℕ) (k : Known) (f s : ℕ) (few : c.known.voices ≤ max_voices) (z : own c e ≡ 0)

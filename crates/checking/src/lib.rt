@@ -7,7 +7,7 @@ ghost use Rattle.memory.specs.Memory as Memory;
 ghost use Rattle.rows.specs.Strides as Strides;
 ghost use Rattle.events.specs.Format as Format;
 ghost use Rattle.checking.specs.Checks as Checks;
-ghost use Rattle.checking.specs.Deeds as Deeds;
+ghost use Rattle.checking.specs.Actions as Actions;
 
 use bank::Known;
 use events::{Event, Record};
@@ -30,9 +30,9 @@ pub struct Checked {
 }
 
 // Whether the event's call is accepted after what is known.
-#[tactic(auto, unfolding(crate::specs::Deeds::deed, crate::specs::Deeds::own_refusal, bank::specs::Calls::refusal))]
+#[tactic(auto, unfolding(crate::specs::Actions::action, crate::specs::Actions::own_refusal, bank::specs::Calls::refusal))]
 fn check_event(known: Known, event: Event) -> Result<(), Refusal>
-    ensures { Refusals.number_of result ≡ Deeds.own_refusal known (Deeds.deed known event) }
+    ensures { Refusals.number_of result ≡ Actions.own_refusal known (Actions.action known event) }
 {
     match event {
         Event::Open {
@@ -58,9 +58,9 @@ fn check_event(known: Known, event: Event) -> Result<(), Refusal>
 }
 
 // What is known of the bank after an event.
-#[tactic(auto, unfolding(crate::specs::Deeds::deed, crate::specs::Deeds::known_after))]
+#[tactic(auto, unfolding(crate::specs::Actions::action, crate::specs::Actions::known_after))]
 fn known_after(known: Known, event: Event) -> Known
-    ensures { result ≡ Deeds.known_after known (Deeds.deed known event) }
+    ensures { result ≡ Actions.known_after known (Actions.action known event) }
 {
     if let Event::Open { voices, .. } = event {
         return Known {
@@ -70,9 +70,9 @@ fn known_after(known: Known, event: Event) -> Known
     known
 }
 
-#[tactic(auto, unfolding(crate::specs::Deeds::frames_of))]
+#[tactic(auto, unfolding(crate::specs::Actions::frames_of))]
 fn frames_of(event: Event) -> u64
-    ensures { (result ≡ Deeds.frames_of event) × (result < 2 ^ 32) }
+    ensures { (result ≡ Actions.frames_of event) × (result < 2 ^ 32) }
 {
     if let Event::Frames(count) = event {
         return count as u64;
@@ -89,10 +89,10 @@ impl Passed {
     };
 
     // One record more, for an output of `room` levels.
-    #[tactic(auto, unfolding(crate::specs::Checks::met))]
+    #[tactic(auto, unfolding(crate::specs::Checks::after_record))]
     fn record(&mut self, list: &[u8], room: u64) -> Result<(), Refusal>
         requires { (self.old.known.voices ≤ Memory.max_voices) × (self.old.frames ≤ room) × (room < 2 ^ 62) }
-        ensures { Checks.seen result self.new ≡ Checks.met room (Checks.so_far self.old) (Format.read list.now self.old.at) }
+        ensures { Checks.seen result self.new ≡ Checks.after_record room (Checks.so_far self.old) (Format.read list.now self.old.at) }
     {
         let Record { event, next } = events::read(list, self.at)?;
         check_event(self.known, event)?;

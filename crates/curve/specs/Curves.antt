@@ -7,7 +7,7 @@ use Rattle.numbers.specs.Constants.{zero, one, two}
 use Rattle.numbers.specs.Rounded.{◌⊕◌, ◌⊖◌, ◌⊗◌, ◌⊘◌}
 use Rattle.numbers.specs.Limits.{unit, clamp}
 use Rattle.numbers.specs.Conversions.{narrow}
-use Rattle.numbers.specs.Counts.{held}
+use Rattle.numbers.specs.Counts.{saturated}
 use Rattle.numbers.specs.StandIns.{whole, exp_m1, exp, ln1p, powi}
 use Rattle.curve.specs.declared.segments.Segment.{Segment}
 use Rattle.curve.specs.Segments.{constant}
@@ -68,6 +68,6 @@ segment from to k total pos len =
     let span = to ⊖ from in
     let n = whole total in
     let start = at from span k n pos in
-    let end = at from span k n (held (pos + len)) in
+    let end = at from span k n (saturated (pos + len)) in
     let r = narrow (exp (neg k ⊘ n)) in
     cond (eq span zero) (constant from len) (cond (is_straight (k ⊗ whole len ⊘ n) r) (straight start end len) (bent start end r len))

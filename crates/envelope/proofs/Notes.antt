@@ -4,7 +4,7 @@ use mathlib.Core.Path.{◌≡◌, refl, ap, ◌∙◌}
 use mathlib.Core.Bool.{false}
 use Prim.Native.Nat.{ℕ, ◌-◌}
 use native.Mathlib.Nat.{sub-zero}
-use Rattle.numbers.specs.Counts.{held}
+use Rattle.numbers.specs.Counts.{saturated}
 use Rattle.numbers.specs.Limits.{unit}
 use Rattle.timing.specs.Samples.{samples}
 use Rattle.settings.specs.declared.settings.Trigger.{Trigger}
@@ -28,7 +28,7 @@ module _ (e : Envelope) (x : Trigger) (restarts : leaves_alone x e.voice ≡ fal
   stage-lengths = ap stage (frames-voice k (trigger x e)) ∙ lengths e.timing x e.voice k restarts
 
   -- Lead is what is left of them.
-  pub lead-remainder : lead (frames k (trigger x e)) ≡ held (until_sustain e.timing (params e) (note_level x e.voice) - k)
+  pub lead-remainder : lead (frames k (trigger x e)) ≡ saturated (until_sustain e.timing (params e) (note_level x e.voice) - k)
   lead-remainder = ap lead (frames-voice k (trigger x e)) ∙ lead-scheduled e.timing x e.voice restarts k
 
 -- A new note's attack begins at place 0, so that each stage lasts exactly its counted samples.

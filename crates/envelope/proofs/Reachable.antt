@@ -11,18 +11,18 @@ use lib.Ieee.{lt, of_bits}
 use Rattle.timing.specs.declared.Timing.{Timing}
 use Rattle.settings.specs.declared.settings.EnvelopeParams.{EnvelopeParams}
 use Rattle.lane.specs.declared.lanes.Voice.{Voice}
-use Rattle.settings.specs.Stages.{holds, leads_up}
+use Rattle.settings.specs.Stages.{is_untimed, is_before_sustain}
 use Rattle.lane.specs.Planning as Planning
 use Rattle.settings.specs.Refusals as Refusals
 use Rattle.settings.specs.Refusals.{time_over, rate_over}
 use Rattle.lane.specs.Voices as Voices
 use Rattle.lane.proofs.Counts.{Counted, most, counted_limited}
 use Rattle.lane.proofs.Timed.{Unguarded, unguarded}
-use Rattle.lane.proofs.Sound.{Sound, holding, timed, new-sound, trigger-sound, release-sound, reset-sound, replan-sound, set_params-sound, frame-sound}
+use Rattle.lane.proofs.Sound.{Sound, untimed_stage, timed_stage, new-sound, trigger-sound, release-sound, reset-sound, replan-sound, set_params-sound, frame-sound}
 use Rattle.lane.proofs.Sound.{trigger-params, release-params, reset-params, replan-params, frame-params}
 use Rattle.lane.proofs.Lead.{Until, lead_exact}
 use Rattle.envelope.specs.declared.envelopes.Envelope.{Envelope}
-use Rattle.envelope.specs.Envelopes.{idle, blank, answer, fresh, stage, lead, frame, frames}
+use Rattle.envelope.specs.Envelopes.{idle, fallback, answer, fresh, stage, lead, frame, frames}
 use Rattle.envelope.specs.Calls.{Call, after, after_all}
 
 pub record Reachable (e : Envelope) : Type 0 where
@@ -42,21 +42,21 @@ counts e r = counted_limited e.voice.lane.params e.timing r.times r.rate
 accepted : (x : Bool) (n : ℕ) → eqb (cond x (suc n) 0) 0 ≡ true → x ≡ false
 accepted x n e = grind arith
 
-answered : (n : ℕ) (a b : Envelope) → Reachable a → (eqb n 0 ≡ true → Reachable b) → Reachable (answer n a b).envelope
-answered n a b p q = go (eqb n 0) q
+answer_reachable : (n : ℕ) (a b : Envelope) → Reachable a → (eqb n 0 ≡ true → Reachable b) → Reachable (answer n a b).envelope
+answer_reachable n a b p q = go (eqb n 0) q
   where
     go : (x : Bool) → (x ≡ true → Reachable b) → Reachable (cond x b a)
     go true q = q refl
     go false q = p
 
-blank-reachable : Reachable blank
+fallback-reachable : Reachable fallback
 unfolding Planning.new time_over rate_over lt of_bits
-blank-reachable = record { times = refl; rate = refl; sound = new-sound most _ }
+fallback-reachable = record { times = refl; rate = refl; sound = new-sound most _ }
 
 fresh-reachable : (p : EnvelopeParams) (t : Timing) → Reachable (fresh p t).envelope
 unfolding Refusals.fresh Refusals.params Planning.new
 fresh-reachable p t =
-    answered (Refusals.fresh p t) blank (idle p t) blank-reachable
+    answer_reachable (Refusals.fresh p t) fallback (idle p t) fallback-reachable
     (λ e. let f = within (rate_over t) (time_over p) e in record { times = f.1; rate = f.0; sound = new-sound most p })
   where
     within : (x y : Bool) → eqb (cond x 4 (cond y 3 0)) 0 ≡ true → (x ≡ false) × (y ≡ false)
@@ -71,7 +71,7 @@ frames-reachable (suc n) e r =
 after-reachable : (e : Envelope) (c : Call) → Reachable e → Reachable (after e c)
 unfolding Refusals.params Refusals.timing Voices.set_params Voices.with_params
 after-reachable e (Call.params p) r =
-    answered (Refusals.params p) e _ r (λ a. go (accepted (time_over p) 2 a))
+    answer_reachable (Refusals.params p) e _ r (λ a. go (accepted (time_over p) 2 a))
   where
     t : Timing
     t = e.timing
@@ -87,7 +87,7 @@ after-reachable e (Call.params p) r =
           sound = set_params-sound most t p v (counted_limited p t g r.rate) r.sound;
         }
 after-reachable e (Call.timing t) r =
-    answered (Refusals.timing t) e _ r (λ a.
+    answer_reachable (Refusals.timing t) e _ r (λ a.
     let f = accepted (rate_over t) 3 a in
     record {
       times = ap time_over (replan-params t e.voice) ∙ r.times;
@@ -110,13 +110,13 @@ pub reachable : (p : EnvelopeParams) (t : Timing) (cs : List Call) → Reachable
 reachable p t cs = all_reachable cs (fresh p t).envelope (fresh-reachable p t)
 
 -- In a stage that takes time no sum saturates and no difference stops at 0.
-pub reachable-unguarded : (e : Envelope) → Reachable e → holds (stage e) ≡ false → Unguarded e.voice
+pub reachable-unguarded : (e : Envelope) → Reachable e → is_untimed (stage e) ≡ false → Unguarded e.voice
 reachable-unguarded e r h = go r.sound
   where
     go : Sound most e.voice → Unguarded e.voice
-    go (holding g u) = absurd (true≢false (sym g ∙ h))
-    go (timed g q) = unguarded most (omega arith) e.voice q
+    go (untimed_stage g u) = absurd (true≢false (sym g ∙ h))
+    go (timed_stage g q) = unguarded most (omega arith) e.voice q
 
 -- Were only frames to follow, Sustain comes after exactly lead's number of them.
-pub reachable-lead : (e : Envelope) → Reachable e → leads_up (stage e) ≡ true → Until e.timing e.voice (lead e)
+pub reachable-lead : (e : Envelope) → Reachable e → is_before_sustain (stage e) ≡ true → Until e.timing e.voice (lead e)
 reachable-lead e r a = lead_exact most (omega arith) e.timing e.voice (counts e r) r.sound a

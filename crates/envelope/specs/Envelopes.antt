@@ -23,17 +23,17 @@ pub record Answer : Type 0 where
   pub envelope : Envelope
 
 -- A Result as an answer: beside a refusal it has the envelope `refused`.
-abbrev pub answered : Envelope → Result Envelope Refusal → Answer
-answered refused (Ok e) = record { refusal = 0; envelope = e }
-answered refused (Err r) = record { refusal = Refusals.number r; envelope = refused }
+abbrev pub answer_of : Envelope → Result Envelope Refusal → Answer
+answer_of refused (Ok e) = record { refusal = 0; envelope = e }
+answer_of refused (Err r) = record { refusal = Refusals.number r; envelope = refused }
 
 -- The idle envelope of these settings and timing.
 abbrev pub idle : EnvelopeParams → Timing → Envelope
 idle p t = record { voice = Planning.new p; timing = t }
 
 -- Beside a refused fresh call: the idle envelope of AMP and Timing::new(0.0).
-abbrev pub blank : Envelope
-blank = idle amp (Clock.new Constants.zero)
+abbrev pub fallback : Envelope
+fallback = idle amp (Clock.new Constants.zero)
 
 -- What a call answers that is refused by the number n, or accepted if n is 0.
 abbrev pub answer : ℕ → Envelope → Envelope → Answer
@@ -42,7 +42,7 @@ answer n refused accepted = record { refusal = n; envelope = cond (eqb n 0) acce
 -- ---- calls
 
 abbrev pub fresh : EnvelopeParams → Timing → Answer
-fresh p t = answer (Refusals.fresh p t) blank (idle p t)
+fresh p t = answer (Refusals.fresh p t) fallback (idle p t)
 
 -- The new numbers are kept, then `replan`.
 abbrev pub with_params : EnvelopeParams → Envelope → Envelope

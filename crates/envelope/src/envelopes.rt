@@ -24,7 +24,7 @@ impl Envelope {
     // An envelope before its first note. Refused: a sample rate over its limit, then a time over its
     // limit.
     pub fn fresh(params: EnvelopeParams, timing: Timing) -> Result<Self, Refusal>
-        ensures { Envelopes.answered Envelopes.blank result ≡ Envelopes.fresh params timing }
+        ensures { Envelopes.answer_of Envelopes.fallback result ≡ Envelopes.fresh params timing }
     {
         settings::check_fresh(params, timing)?;
         Ok(Self {
@@ -34,8 +34,8 @@ impl Envelope {
     }
 
     // The idle envelope of AMP and Timing::new(0.0), for a caller to take in a refused one's place.
-    pub fn blank() -> Self
-        ensures { result ≡ Envelopes.blank }
+    pub fn fallback() -> Self
+        ensures { result ≡ Envelopes.fallback }
     {
         Self {
             voice: Lane::new(EnvelopeParams::AMP),
@@ -45,7 +45,7 @@ impl Envelope {
 
     // Other settings, which the next frame already has. Refused: a time over its limit.
     pub fn with_params(self, params: EnvelopeParams) -> Result<Self, Refusal>
-        ensures { Envelopes.answered self result ≡ Envelopes.set_params params self }
+        ensures { Envelopes.answer_of self result ≡ Envelopes.set_params params self }
     {
         settings::check_params(params)?;
         Ok(Self {
@@ -56,7 +56,7 @@ impl Envelope {
 
     // Another timing, likewise. Refused: a sample rate over its limit.
     pub fn with_timing(self, timing: Timing) -> Result<Self, Refusal>
-        ensures { Envelopes.answered self result ≡ Envelopes.set_timing timing self }
+        ensures { Envelopes.answer_of self result ≡ Envelopes.set_timing timing self }
     {
         settings::check_timing(timing)?;
         Ok(Self {

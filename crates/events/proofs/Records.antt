@@ -12,7 +12,7 @@ use Rattle.std.proofs.Common.{Option, None, Some}
 use Rattle.numbers.specs.Bytes.{number}
 use Rattle.events.specs.declared.Event.{Event}
 use Rattle.events.specs.declared.tags.Tag.{Tag}
-use Rattle.events.specs.Format.{Reading, byte, tag_of, body_length, named, if_named, if_known, meaning, ended, placed, is_open, read}
+use Rattle.events.specs.Format.{Parsed, byte, tag_of, body_length, named, if_named, if_known, meaning, ended, placed, is_open, read}
 
 abbrev pub opens : Event → Bool
 opens (Event.Open voices timing params) = true
@@ -26,15 +26,15 @@ opens (Event.Join voice from) = false
 opens (Event.Frames frames) = false
 
 -- A record that a reading accepts is an open if and only if `first`, and the next byte is as P says; one that it refuses has a number.
-abbrev Accepts : Bool → (ℕ → Type 0) → Reading → Type 0
-Accepts first P (Reading.Record e next) = (opens e ≡ first) × P next
-Accepts first P (Reading.Refused n) = 6 ≤ n
+abbrev Accepts : Bool → (ℕ → Type 0) → Parsed → Type 0
+Accepts first P (Parsed.Record e next) = (opens e ≡ first) × P next
+Accepts first P (Parsed.Refused n) = 6 ≤ n
 
-by_test : (Q : Reading → Type 0) (t : Bool) {x y : Reading} → (t ≡ true → Q x) → (t ≡ false → Q y) → Q (cond t x y)
+by_test : (Q : Parsed → Type 0) (t : Bool) {x y : Parsed} → (t ≡ true → Q x) → (t ≡ false → Q y) → Q (cond t x y)
 by_test Q true p q = p refl
 by_test Q false p q = q refl
 
-by_known : (Q : Reading → Type 0) (o : Option Tag) {f : Tag → Reading} → Q (Reading.Refused 7) → ((tag : Tag) → Q (f tag)) → Q (if_known o f)
+by_known : (Q : Parsed → Type 0) (o : Option Tag) {f : Tag → Parsed} → Q (Parsed.Refused 7) → ((tag : Tag) → Q (f tag)) → Q (if_known o f)
 by_known Q None p q = p
 by_known Q (Some tag) p q = q tag
 
@@ -70,7 +70,7 @@ unfolding read
 accepted l at =
     let n = number 2 l (at + 1) in
     let next = at + 3 + n in
-    let Q : Reading → Type 0 = Accepts (eqb at 0) (Within l at) in
+    let Q : Parsed → Type 0 = Accepts (eqb at 0) (Within l at) in
     by_test Q (ltb (length l) (at + 3)) (λ z. omega arith) (λ z.
     by_test Q (ltb (length l) next) (λ z. omega arith) (λ e.
     by_known Q (tag_of (byte l at)) (omega arith) (λ tag.
@@ -79,8 +79,8 @@ accepted l at =
     let o = agree (is_open tag) (eqb at 0) (not-false (placed tag at) d) in
     meant (eqb at 0) (Within l at) l (at + 3) next (omega arith, ltb-false (length l) next e) tag o)))))
 
-module _ (l : List ℕ) (at : ℕ) (e : Event) (next : ℕ) (h : read l at ≡ Reading.Record e next) where
-  right : Accepts (eqb at 0) (Within l at) (Reading.Record e next)
+module _ (l : List ℕ) (at : ℕ) (e : Event) (next : ℕ) (h : read l at ≡ Parsed.Record e next) where
+  right : Accepts (eqb at 0) (Within l at) (Parsed.Record e next)
   right = rw h at (accepted l at)
 
   pub read_first : opens e ≡ eqb at 0
@@ -89,5 +89,5 @@ module _ (l : List ℕ) (at : ℕ) (e : Event) (next : ℕ) (h : read l at ≡ R
   pub read_next : (at + 3 ≤ next) × (next ≤ length l)
   read_next = right.1
 
-pub read-refused : (l : List ℕ) (at n : ℕ) → read l at ≡ Reading.Refused n → 6 ≤ n
+pub read-refused : (l : List ℕ) (at n : ℕ) → read l at ≡ Parsed.Refused n → 6 ≤ n
 read-refused l at n h = rw h at (accepted l at)

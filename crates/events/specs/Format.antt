@@ -77,13 +77,13 @@ named l i = ltb (byte l i) 2 && (ltb (byte l (i + 45)) 2 && ltb (byte l (i + 46)
 -- ---- records
 
 -- What stands at a place of a list: an event and the place after its record, or the number that refuses the record.
-pub data Reading : Type 0 where
-  Record : Event → ℕ → Reading
-  Refused : ℕ → Reading
+pub data Parsed : Type 0 where
+  Record : Event → ℕ → Parsed
+  Refused : ℕ → Parsed
 
-abbrev pub reading : Result TheRecord.Record Refusal → Reading
-reading (Ok r) = Reading.Record r.event r.next
-reading (Err e) = Reading.Refused (Refusals.number e)
+abbrev pub parsed : Result TheRecord.Record Refusal → Parsed
+parsed (Ok r) = Parsed.Record r.event r.next
+parsed (Err e) = Parsed.Refused (Refusals.number e)
 
 -- The tags by their numbers, from 0, which is no tag's. A number past them is no tag's either.
 abbrev pub tags : List (Option Tag)
@@ -143,26 +143,26 @@ meaning Tag.Join l i = Ok (Event.Join (byte l i) (byte l (i + 1)))
 meaning Tag.Frames l i = Ok (Event.Frames (number 4 l i))
 
 -- That, as a reading of a record that ends before byte `next`.
-abbrev pub ended : ℕ → Result Event Refusal → Reading
-ended next (Ok e) = Reading.Record e next
-ended next (Err e) = Reading.Refused (Refusals.number e)
+abbrev pub ended : ℕ → Result Event Refusal → Parsed
+ended next (Ok e) = Parsed.Record e next
+ended next (Err e) = Parsed.Refused (Refusals.number e)
 
 -- Whether a record with this tag stands where it may: an open at byte 0, where the first record is, and no other record there.
 abbrev pub placed : Tag → ℕ → Bool
 placed tag at = beq (is_open tag) (eqb at 0)
 
-abbrev pub if_known : Option Tag → (Tag → Reading) → Reading
-if_known None f = Reading.Refused 7
+abbrev pub if_known : Option Tag → (Tag → Parsed) → Parsed
+if_known None f = Parsed.Refused 7
 if_known (Some tag) f = f tag
 
 -- The record at byte `at`, tested in document 01's order: 6 its head or its body doesn't fit, 7 an unknown tag, 8 a wrong length, 9 an open that
 -- isn't first or a first record that is no open, 10 a code byte without a name.
-unfoldable pub read : List ℕ → ℕ → Reading
+unfoldable pub read : List ℕ → ℕ → Parsed
 read l at =
     let len = number 2 l (at + 1) in
-    cond (ltb (length l) (at + 3)) (Reading.Refused 6)
-    (cond (ltb (length l) (at + 3 + len)) (Reading.Refused 6)
+    cond (ltb (length l) (at + 3)) (Parsed.Refused 6)
+    (cond (ltb (length l) (at + 3 + len)) (Parsed.Refused 6)
     (if_known (tag_of (byte l at)) (λ tag.
-    cond (not (eqb len (body_length tag))) (Reading.Refused 8)
-    (cond (not (placed tag at)) (Reading.Refused 9)
+    cond (not (eqb len (body_length tag))) (Parsed.Refused 8)
+    (cond (not (placed tag at)) (Parsed.Refused 9)
     (ended (at + 3 + len) (meaning tag l (at + 3)))))))

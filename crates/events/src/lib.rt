@@ -51,7 +51,7 @@ pub struct Record {
 // first; a code byte without a name.
 #[tactic(auto, using(crate::proofs::Numbers::two_bytes), unfolding(crate::specs::Format::read))]
 pub fn read(list: &[u8], at: usize) -> Result<Record, Refusal>
-    ensures { Format.reading result ≡ Format.read list.now at }
+    ensures { Format.parsed result ≡ Format.read list.now at }
 {
     if list.len() < 3 || list.len() - 3 < at {
         return Err(Refusal::CutShort);

@@ -37,7 +37,7 @@ pub extern "C" fn worfelli_note(
     let params = settings(attack, decay, sustain);
     let answer = Envelope::fresh(params, Timing::new(sample_rate));
     answer
-        .unwrap_or(Envelope::blank())
+        .unwrap_or(Envelope::fallback())
         .after_trigger(Trigger::New)
         .after_process(out);
     number_of(answer)

@@ -1,5 +1,5 @@
 -- A block of a + c frames anywhere in a list of calls, and the same frames in two blocks: the same bank, histories, replies and levels (`cut-block`).
--- An accepted block is so many frames (`block-frames`, `block_read`), frames and their rows add up (`frames-add`, `rows-add`), and a list is run part
+-- An accepted block is so many frames (`block-frames`, `block_after_call`), frames and their rows add up (`frames-add`, `rows-add`), and a list is run part
 -- by part (`run-append`).
 use mathlib.Core.Path.{◌≡◌, sym, ap, ap₂, ◌∙◌, subst, fun_ext}
 use mathlib.Core.List.{List, [], ◌∷◌, ◌++◌, append_assoc}
@@ -12,10 +12,10 @@ use Rattle.rows.specs.Strides.{stride_of}
 use Rattle.bank.specs.Banks.{Bank, size, known, frames, rows, answer, new, written}
 use Rattle.bank.proofs.Frames.{frames-size, frames-add, rows-add}
 use Rattle.bank.proofs.Accepted.{whole, block-frames}
-use Rattle.histories.specs.Demand.{Entry, run, frames_more, effect, Reading, history, read, first_reading, reading}
+use Rattle.histories.specs.Demand.{Entry, run, frames_more, effect, Histories, history, after_call, fresh_histories, histories_of}
 use Rattle.histories.specs.Demand.{bank_after, replies_from, voices_of, stride, block, written_after, Cut}
 use Rattle.histories.proofs.Lists.{run-append}
-use Rattle.histories.proofs.Stands.{reading-voices, bank-voices}
+use Rattle.histories.proofs.Simulation.{histories_of-voices, bank-voices}
 
 pub block-rows : (b : Bank) (n a : ℕ) (out : List Float) → size b ≡ n → length out ≡ a * stride_of n → written b out ≡ rows a b
 unfolding written
@@ -23,17 +23,17 @@ block-rows b n a out e =
     subst (λ (n : ℕ). length out ≡ a * stride_of n → written b out ≡ rows a b) e (λ f. rw (f, (whole (known b) a).0, (whole (known b) a).1))
 
 -- What is read of a block.
-abbrev blocked : Reading → ℕ → Reading
+abbrev blocked : Histories → ℕ → Histories
 blocked r a = record { known = r.known; fresh = r.fresh; entries = λ v. (frames_more a (history r v)).entries }
 
-pub block_read : (r : Reading) (n a : ℕ) → r.known.voices ≡ n → read r (Call.process (a * stride_of n)) ≡ blocked r a
-unfolding read effect
-block_read r n a e =
-    subst (λ (n : ℕ). read r (Call.process (a * stride_of n)) ≡ blocked r a) e (rw ((whole r.known a).0, (whole r.known a).1))
+pub block_after_call : (r : Histories) (n a : ℕ) → r.known.voices ≡ n → after_call r (Call.process (a * stride_of n)) ≡ blocked r a
+unfolding after_call effect
+block_after_call r n a e =
+    subst (λ (n : ℕ). after_call r (Call.process (a * stride_of n)) ≡ blocked r a) e (rw ((whole r.known a).0, (whole r.known a).1))
 
-blocked-add : (r : Reading) (a c : ℕ) → blocked r (a + c) ≡ blocked (blocked r a) c
+blocked-add : (r : Histories) (a c : ℕ) → blocked r (a + c) ≡ blocked (blocked r a) c
 blocked-add r a c =
-    ap {B = Reading} (λ (es : ℕ → List Entry). record { known = r.known; fresh = r.fresh; entries = es })
+    ap {B = Histories} (λ (es : ℕ → List Entry). record { known = r.known; fresh = r.fresh; entries = es })
     (fun_ext (λ v.
     ap (λ (es : List Entry). r.entries v ++ es) (sym (replicate-append-replicate a c Entry.frame)) ∙ sym (append_assoc (r.entries v) _ _)))
 
@@ -53,18 +53,18 @@ cut-bank o pre post a c =
     ∙ sym (block-frames (frames a b) n c (frames-size a b ∙ at)) ∙ sym (ap (λ (x : Bank). f x (block o c)) (block-frames b n a at)))
     ∙ sym (run-append f (new o).bank pre (block o a ∷ block o c ∷ post))
 
-cut-reading : (o : Opening) (pre post : List Call) (a c : ℕ)
-    → reading o (pre ++ block o (a + c) ∷ post) ≡ reading o (pre ++ block o a ∷ block o c ∷ post)
-unfolding reading
-cut-reading o pre post a c =
+cut-histories : (o : Opening) (pre post : List Call) (a c : ℕ)
+    → histories_of o (pre ++ block o (a + c) ∷ post) ≡ histories_of o (pre ++ block o a ∷ block o c ∷ post)
+unfolding histories_of
+cut-histories o pre post a c =
     let n = voices_of o in
-    let r = reading o pre in
-    let at : r.known.voices ≡ n = reading-voices o pre in
-    run-append read (first_reading o) pre (block o (a + c) ∷ post)
-    ∙ ap (λ (x : Reading). run read x post)
-    (block_read r n (a + c) at ∙ blocked-add r a c
-    ∙ sym (block_read (blocked r a) n c at) ∙ sym (ap (λ (x : Reading). read x (block o c)) (block_read r n a at)))
-    ∙ sym (run-append read (first_reading o) pre (block o a ∷ block o c ∷ post))
+    let r = histories_of o pre in
+    let at : r.known.voices ≡ n = histories_of-voices o pre in
+    run-append after_call (fresh_histories o) pre (block o (a + c) ∷ post)
+    ∙ ap (λ (x : Histories). run after_call x post)
+    (block_after_call r n (a + c) at ∙ blocked-add r a c
+    ∙ sym (block_after_call (blocked r a) n c at) ∙ sym (ap (λ (x : Histories). after_call x (block o c)) (block_after_call r n a at)))
+    ∙ sym (run-append after_call (fresh_histories o) pre (block o a ∷ block o c ∷ post))
 
 -- The bank after the first block.
 half : (o : Opening) (pre : List Call) (a : ℕ) → bank_after o (pre ++ block o a ∷ []) ≡ frames a (bank_after o pre)
@@ -88,7 +88,7 @@ pub cut-block : (o : Opening) (pre post : List Call) (a c : ℕ) → Cut o pre p
 cut-block o pre post a c =
     record {
       bank = cut-bank o pre post a c;
-      reading = cut-reading o pre post a c;
+      histories = cut-histories o pre post a c;
       replies = ap (λ (b : Bank). replies_from b post) (cut-bank o pre [] a c);
       written = cut-written o pre a c;
     }

@@ -1,4 +1,4 @@
--- Demand 3, put together from the files before this one. One list: each voice is the envelope of its history (`stands`), and stage, level and replies
+-- Demand 3, put together from the files before this one. One list: each voice is the envelope of its history (`simulates`), and stage, level and replies
 -- follow. Two lists: voices of the same history are the same envelope. A note in a bank: its stage is that of the history, whose stages last as
 -- `note-lengths` says.
 use mathlib.Core.Path.{◌≡◌, refl, sym, ap, ◌∙◌}
@@ -14,37 +14,37 @@ use Rattle.lane.specs.Voices.{leaves_alone}
 use Rattle.envelope.specs.Envelopes as Envelopes
 use Rattle.bank.specs.declared.known.Known.{Known}
 use Rattle.bank.specs.Calls.{Opening, Call, opening_refusal, refusal}
-use Rattle.bank.specs.Banks.{Bank, known, moved, answer, new}
+use Rattle.bank.specs.Banks.{Bank, known, after_accepted, answer, new}
 use Rattle.bank.proofs.Accepted.{if_refused}
 use Rattle.histories.specs.Demand.{Entry, History, more, frames_more, envelope_of, level_of, settings_of, timing_of}
-use Rattle.histories.specs.Demand.{effect, Reading, history, grown, read, first_reading, reading, history_of}
+use Rattle.histories.specs.Demand.{effect, Histories, history, extended, after_call, fresh_histories, histories_of, history_of}
 use Rattle.histories.specs.Demand.{bank_after, envelope_at, stage_at, voices_of, block, stage_after, note_stage, OneList, TwoLists, NoteInBank, Demand3}
 use Rattle.histories.proofs.Lists.{run-append}
-use Rattle.histories.proofs.Stands.{fresh-stands, stands, reading-voices, bank-voices}
-use Rattle.histories.proofs.Answers.{replies-due}
-use Rattle.histories.proofs.Limits.{history_led}
+use Rattle.histories.proofs.Simulation.{fresh-simulates, simulates, histories_of-voices, bank-voices}
+use Rattle.histories.proofs.Answers.{replies-expected}
+use Rattle.histories.proofs.Limits.{history_lead_exact}
 use Rattle.histories.proofs.Levels.{drawn-levels}
-use Rattle.histories.proofs.Blocks.{block_read, cut-block}
+use Rattle.histories.proofs.Blocks.{block_after_call, cut-block}
 use Rattle.histories.proofs.Notes.{note-lengths}
 
 -- ---- one list
 
-refused-bank : (o : Opening) (pre : List Call) (c : Call) → refusal (reading o pre).known c ≢ 0 → bank_after o (pre ++ c ∷ []) ≡ bank_after o pre
+refused-bank : (o : Opening) (pre : List Call) (c : Call) → refusal (histories_of o pre).known c ≢ 0 → bank_after o (pre ++ c ∷ []) ≡ bank_after o pre
 unfolding bank_after answer
 refused-bank o pre c d =
     let b = bank_after o pre in
     run-append (λ (b : Bank) (c : Call). (answer b c).bank) (new o).bank pre (c ∷ [])
-    ∙ if_refused (refusal (known b) c) (moved b c) b (λ e. d (ap (λ (k : Known). refusal k c) (sym (stands o pre).knows) ∙ e))
+    ∙ if_refused (refusal (known b) c) (after_accepted b c) b (λ e. d (ap (λ (k : Known). refusal k c) (sym (simulates o pre).knows) ∙ e))
 
-refused-reading : (o : Opening) (pre : List Call) (c : Call) → refusal (reading o pre).known c ≢ 0 → reading o (pre ++ c ∷ []) ≡ reading o pre
-unfolding reading read
-refused-reading o pre c d =
-    let r = reading o pre in
-    run-append read (first_reading o) pre (c ∷ []) ∙ if_refused (refusal r.known c) (grown r c) r d
+refused-histories : (o : Opening) (pre : List Call) (c : Call) → refusal (histories_of o pre).known c ≢ 0 → histories_of o (pre ++ c ∷ []) ≡ histories_of o pre
+unfolding histories_of after_call
+refused-histories o pre c d =
+    let r = histories_of o pre in
+    run-append after_call (fresh_histories o) pre (c ∷ []) ∙ if_refused (refusal r.known c) (extended r c) r d
 
-call-number : (o : Opening) (pre : List Call) (c : Call) → (answer (bank_after o pre) c).refusal ≡ refusal (reading o pre).known c
+call-number : (o : Opening) (pre : List Call) (c : Call) → (answer (bank_after o pre) c).refusal ≡ refusal (histories_of o pre).known c
 unfolding answer
-call-number o pre c = ap (λ (k : Known). refusal k c) (stands o pre).knows
+call-number o pre c = ap (λ (k : Known). refusal k c) (simulates o pre).knows
 
 fresh-number : (o : Opening) → (new o).refusal ≡ opening_refusal o
 unfolding new
@@ -58,15 +58,15 @@ one_list o cs =
       envelope = same;
       stage = λ v h. ap Envelopes.stage (same v h);
       level = λ v h. ap Envelopes.level (same v h);
-      replies = replies-due _ _ (fresh-stands o) cs;
-      lead = λ v h. history_led o cs v;
+      replies = replies-expected _ _ (fresh-simulates o) cs;
+      lead = λ v h. history_lead_exact o cs v;
       number = λ pre post c e. call-number o pre c;
-      refused = λ pre post c e d. (refused-bank o pre c d, refused-reading o pre c d);
+      refused = λ pre post c e d. (refused-bank o pre c d, refused-histories o pre c d);
       drawn = λ pre post out e. drawn-levels o pre out;
     }
   where
     same : (v : ℕ) → v < voices_of o → envelope_at o cs v ≡ envelope_of (history_of o cs v)
-    same v h = (stands o cs).at v (omega (arith, bank-voices o cs))
+    same v h = (simulates o cs).at v (omega (arith, bank-voices o cs))
 
 -- ---- two lists
 
@@ -85,22 +85,22 @@ two_lists o₁ o₂ cs₁ cs₂ v w h k =
 
 -- ---- a note
 
-trigger-read : (r : Reading) (v : ℕ) (x : Trigger) → v < r.known.voices
-    → ((read r (Call.trigger v x)).known ≡ r.known) × (history (read r (Call.trigger v x)) v ≡ more (history r v) (Entry.trigger x ∷ []))
-unfolding read refusal effect
-trigger-read r v x h = (rw (lt-ltb v r.known.voices h), rw (lt-ltb v r.known.voices h, eq-eqb v v refl))
+trigger-after_call : (r : Histories) (v : ℕ) (x : Trigger) → v < r.known.voices
+    → ((after_call r (Call.trigger v x)).known ≡ r.known) × (history (after_call r (Call.trigger v x)) v ≡ more (history r v) (Entry.trigger x ∷ []))
+unfolding after_call refusal effect
+trigger-after_call r v x h = (rw (lt-ltb v r.known.voices h), rw (lt-ltb v r.known.voices h, eq-eqb v v refl))
 
 note-history : (o : Opening) (cs : List Call) (v k : ℕ) (x : Trigger) → v < voices_of o
     → history_of o (cs ++ Call.trigger v x ∷ block o k ∷ []) v ≡ frames_more k (more (history_of o cs v) (Entry.trigger x ∷ []))
-unfolding reading
+unfolding histories_of
 note-history o cs v k x h =
-    let r = reading o cs in
-    let r₁ = read r (Call.trigger v x) in
-    let n : r.known.voices ≡ voices_of o = reading-voices o cs in
-    let t = trigger-read r v x (omega (arith, n)) in
-    ap (λ (r : Reading). history r v)
-    (run-append read (first_reading o) cs (Call.trigger v x ∷ block o k ∷ [])
-    ∙ block_read r₁ (voices_of o) k (ap (λ (k : Known). k.voices) t.0 ∙ n))
+    let r = histories_of o cs in
+    let r₁ = after_call r (Call.trigger v x) in
+    let n : r.known.voices ≡ voices_of o = histories_of-voices o cs in
+    let t = trigger-after_call r v x (omega (arith, n)) in
+    ap (λ (r : Histories). history r v)
+    (run-append after_call (fresh_histories o) cs (Call.trigger v x ∷ block o k ∷ [])
+    ∙ block_after_call r₁ (voices_of o) k (ap (λ (k : Known). k.voices) t.0 ∙ n))
     ∙ ap (frames_more k) t.1
 
 note_in_bank : (o : Opening) (cs : List Call) (v k : ℕ) → v < voices_of o → NoteInBank o cs v k

@@ -14,9 +14,9 @@ use Rattle.envelope.specs.declared.envelopes.Envelope.{Envelope}
 use Rattle.bank.specs.declared.known.Known.{Known}
 use Rattle.bank.specs.Calls.{Call, learned, refusal}
 use Rattle.rows.specs.Strides.{stride_of}
-use Rattle.bank.specs.Banks.{Bank, voice, size, known, envelope, put, on_all, with_timing, frame, frames, moved}
+use Rattle.bank.specs.Banks.{Bank, voice, size, known, envelope, put, on_all, with_timing, frame, frames, after_accepted}
 use Rattle.bank.proofs.Frames.{size-put, voice-put, size-on_all, voice-on_all}
-use Rattle.bank.proofs.Accepted.{named}
+use Rattle.bank.proofs.Accepted.{voice_there}
 use Rattle.histories.specs.Demand.{Entry, run, step, Effect, enter, copy, only, effect}
 
 -- What an effect copies from is one of n voices.
@@ -94,14 +94,14 @@ kept-frames (suc n) b =
     }
 
 -- An accepted call.
-pub kept : (b : Bank) (c : Call) → refusal (known b) c ≡ 0 → Kept b (effect (known b) c) (learned (known b) c) (moved b c)
-unfolding moved effect refusal step
+pub kept : (b : Bank) (c : Call) → refusal (known b) c ≡ 0 → Kept b (effect (known b) c) (learned (known b) c) (after_accepted b c)
+unfolding after_accepted effect refusal step
 kept b (Call.set_params v p) a = one b v _ (enter (Entry.params p ∷ [])) tt refl
 kept b (Call.set_all_params p) a = each b b.timing _ (Entry.params p ∷ []) (λ c. refl)
 kept b (Call.set_timing t) a = each b t _ (Entry.timing t ∷ []) (λ c. refl)
 kept b (Call.trigger v x) a = one b v _ (enter (Entry.trigger x ∷ [])) tt refl
 kept b (Call.release v) a = one b v _ (enter (Entry.release ∷ [])) tt refl
 kept b (Call.reset v) a = one b v _ (enter (Entry.reset ∷ [])) tt refl
-kept b (Call.join v u) a = one b v _ (copy u) (named (known b) u 0 (named (known b) v _ a).1).0 refl
+kept b (Call.join v u) a = one b v _ (copy u) (voice_there (known b) u 0 (voice_there (known b) v _ a).1).0 refl
 kept b (Call.process len) a = kept-frames (len / stride_of (size b)) b
 kept b (Call.ask q) a = none b

@@ -20,8 +20,8 @@ use Rattle.rows.specs.Strides.{stride_of}
 use Rattle.bank.specs.Banks.{Bank, size, known, rows, written}
 use Rattle.bank.proofs.Accepted.{if_refused}
 use Rattle.bank.proofs.Frames.{frames-size, stride_holds, length-rows, rows_at}
-use Rattle.histories.specs.Demand.{level_of, frames_more, Reading, history, reading, refusal_after, voices_of, bank_after, Drawn}
-use Rattle.histories.proofs.Stands.{Stands, stands, later, bank-voices}
+use Rattle.histories.specs.Demand.{level_of, frames_more, Histories, history, histories_of, refusal_after, voices_of, bank_after, Drawn}
+use Rattle.histories.proofs.Simulation.{Simulates, simulates, later, bank-voices}
 
 module _ (b : Bank) (out : List Float) where
   refused-out : refusal (known b) (Call.process (length out)) ≢ 0 → written b out ≡ out
@@ -45,9 +45,9 @@ module _ (b : Bank) (out : List Float) where
     accepted-out = rw a
 
     -- The level of a voice is handed out k frames later, and a spare lane's is +0.
-    level-due : (r : Reading) → Stands b r → (k v : ℕ) → k < length out / stride_of (size b) → v < size b
+    level-expected : (r : Histories) → Simulates b r → (k v : ℕ) → k < length out / stride_of (size b) → v < size b
         → get_or (written b out) (k * stride_of (size b) + v) nan ≡ level_of (frames_more k (history r v))
-    level-due r s k v h l =
+    level-expected r s k v h l =
         let i : v < stride_of (size b) = omega (arith, stride_holds (size b)) in
         ap (λ (x : List Float). get_or x (k * stride_of (size b) + v) nan) accepted-out
         ∙ rows_at (length out / stride_of (size b)) b k v h i
@@ -74,7 +74,7 @@ drawn-levels o cs out =
       whole = λ a. subst (λ (n : ℕ). length out / stride_of n * stride_of n ≡ length out) counted (whole-rows b out (accepted a));
       level = λ a.
           subst (λ (n : ℕ). (k v : ℕ) → k < length out / stride_of n → v < n → lane n k v ≡ level_of (frames_more k (history r v))) counted
-          (level-due b out (accepted a) r s);
+          (level-expected b out (accepted a) r s);
       spare = λ a.
           subst (λ (n : ℕ). (k v : ℕ) → k < length out / stride_of n → n ≤ v → v < stride_of n → lane n k v ≡ Constants.zero) counted
           (level-spare b out (accepted a));
@@ -84,11 +84,11 @@ drawn-levels o cs out =
     b : Bank
     b = bank_after o cs
 
-    r : Reading
-    r = reading o cs
+    r : Histories
+    r = histories_of o cs
 
-    s : Stands b r
-    s = stands o cs
+    s : Simulates b r
+    s = simulates o cs
 
     -- Lane v of row k, were there n voices.
     lane : ℕ → ℕ → ℕ → Float

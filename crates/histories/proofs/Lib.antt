@@ -1,11 +1,11 @@
 -- The proof of demand 3 and of the bench table, each file on those before it.
 pub mod Lists
 pub mod Kept
-pub mod Stands
+pub mod Simulation
 pub mod Answers
 pub mod Limits
 pub mod Levels
 pub mod Blocks
 pub mod Notes
 pub mod Demand
-pub mod Bench
+pub mod BenchValues

@@ -23,9 +23,9 @@ use Rattle.memory.specs.Memory.{max_voices}
 use Rattle.bank.specs.declared.known.Known.{Known}
 use Rattle.bank.specs.Calls.{Opening, opening, Call, if_accepted, opening_refusal, opened, refusal}
 use Rattle.rows.specs.Strides.{stride_of}
-use Rattle.bank.proofs.Accepted.{named}
-use Rattle.histories.specs.Demand.{Entry, Fresh, run, step, envelope_of, Effect, enter, copy, only, effect, changed}
-use Rattle.histories.specs.Demand.{Reading, grown, read, first_reading, reading, history_of, Led}
+use Rattle.bank.proofs.Accepted.{voice_there}
+use Rattle.histories.specs.Demand.{Entry, Fresh, run, step, envelope_of, Effect, enter, copy, only, effect, after_effect}
+use Rattle.histories.specs.Demand.{Histories, extended, after_call, fresh_histories, histories_of, history_of, LeadExact}
 
 -- ---- what is entered
 
@@ -62,7 +62,7 @@ only_enters v w x p = go (eqb w v)
 
 accepted_enters : (k : Known) (c : Call) (w : ℕ) → refusal k c ≡ 0 → Enters (effect k c w)
 unfolding refusal effect
-accepted_enters k (Call.set_params v p) w a = only_enters v w (enter (Entry.params p ∷ [])) ((named k v _ a).1, tt)
+accepted_enters k (Call.set_params v p) w a = only_enters v w (enter (Entry.params p ∷ [])) ((voice_there k v _ a).1, tt)
 accepted_enters k (Call.set_all_params p) w a = (a, tt)
 accepted_enters k (Call.set_timing t) w a = (a, tt)
 accepted_enters k (Call.trigger v x) w a = only_enters v w (enter (Entry.trigger x ∷ [])) (tt, tt)
@@ -73,28 +73,28 @@ accepted_enters k (Call.process len) w a = all_frames (len / stride_of k.voices)
 accepted_enters k (Call.ask q) w a = tt
 
 -- The fresh settings and timing f, and each voice's entries within the limits.
-abbrev Fine : Fresh → Reading → Type 0
+abbrev Fine : Fresh → Histories → Type 0
 Fine f r = (r.fresh ≡ f) × ((w : ℕ) → All (r.entries w))
 
-changed_fine : (es : ℕ → List Entry) → ((w : ℕ) → All (es w)) → (w : ℕ) (x : Effect) → Enters x → All (changed es w x)
-changed_fine es p w (enter new) q = all_append (es w) new (p w) q
-changed_fine es p w (copy u) q = p u
+after_effect_fine : (es : ℕ → List Entry) → ((w : ℕ) → All (es w)) → (w : ℕ) (x : Effect) → Enters x → All (after_effect es w x)
+after_effect_fine es p w (enter new) q = all_append (es w) new (p w) q
+after_effect_fine es p w (copy u) q = p u
 
-read_fine : (f : Fresh) (r : Reading) (c : Call) → Fine f r → Fine f (read r c)
-unfolding read
-read_fine f r c p = go (refusal r.known c) refl
+after_call_fine : (f : Fresh) (r : Histories) (c : Call) → Fine f r → Fine f (after_call r c)
+unfolding after_call
+after_call_fine f r c p = go (refusal r.known c) refl
   where
-    go : (n : ℕ) → refusal r.known c ≡ n → Fine f (if_accepted n (grown r c) r)
-    go zero e = (p.0, λ w. changed_fine r.entries p.1 w (effect r.known c w) (accepted_enters r.known c w e))
+    go : (n : ℕ) → refusal r.known c ≡ n → Fine f (if_accepted n (extended r c) r)
+    go zero e = (p.0, λ w. after_effect_fine r.entries p.1 w (effect r.known c w) (accepted_enters r.known c w e))
     go (suc n) e = p
 
-run_fine : (f : Fresh) (cs : List Call) (r : Reading) → Fine f r → Fine f (run read r cs)
+run_fine : (f : Fresh) (cs : List Call) (r : Histories) → Fine f r → Fine f (run after_call r cs)
 run_fine f [] r p = p
-run_fine f (c ∷ cs) r p = run_fine f cs (read r c) (read_fine f r c p)
+run_fine f (c ∷ cs) r p = run_fine f cs (after_call r c) (after_call_fine f r c p)
 
-reading_fine : (o : Opening) (cs : List Call) → Fine (record { params = (opened o).params; timing = (opened o).timing }) (reading o cs)
-unfolding reading first_reading
-reading_fine o cs = run_fine _ cs (first_reading o) (refl, λ w. tt)
+histories_of_fine : (o : Opening) (cs : List Call) → Fine (record { params = (opened o).params; timing = (opened o).timing }) (histories_of o cs)
+unfolding histories_of fresh_histories
+histories_of_fine o cs = run_fine _ cs (fresh_histories o) (refl, λ w. tt)
 
 amp_fine : Refusals.fresh amp (Clock.new Constants.zero) ≡ 0
 unfolding Refusals.fresh Refusals.params time_over rate_over lt of_bits
@@ -148,16 +148,16 @@ unfolding envelope_of
 history-reachable o cs v =
     let p = (opened o).params in
     let t = (opened o).timing in
-    let es = (reading o cs).entries v in
-    let f = reading_fine o cs in
+    let es = (histories_of o cs).entries v in
+    let f = histories_of_fine o cs in
     let e : run step (Envelopes.idle p t) es ≡ after_all (Envelopes.fresh p t).envelope (calls_of es) =
     run-called es (Envelopes.idle p t) (f.1 v) ∙ rw (opened_fine o)
     in
     subst Reachable (sym (ap (λ (x : Fresh). run step (Envelopes.idle x.params x.timing) es) f.0 ∙ e)) (reachable p t (calls_of es))
 
-pub history_led : (o : Opening) (cs : List Call) (v : ℕ) → Led (envelope_of (history_of o cs v))
+pub history_lead_exact : (o : Opening) (cs : List Call) (v : ℕ) → LeadExact (envelope_of (history_of o cs v))
 unfolding Readings.lead
-history_led o cs v =
+history_lead_exact o cs v =
     let e = envelope_of (history_of o cs v) in
     let u = reachable-lead e (history-reachable o cs v) in
     record {

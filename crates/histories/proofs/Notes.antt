@@ -50,10 +50,10 @@ run-frames zero e = refl
 run-frames (suc k) e = run-frames k (Envelopes.frame e)
 
 -- A trigger and k frames, run.
-struck : (h : History) (x : Trigger) (k : ℕ)
+triggered : (h : History) (x : Trigger) (k : ℕ)
     → envelope_of (frames_more k (more h (Entry.trigger x ∷ []))) ≡ Envelopes.frames k (Envelopes.trigger x (envelope_of h))
 unfolding envelope_of step
-struck h x k =
+triggered h x k =
     let e = Envelopes.idle h.fresh.params h.fresh.timing in
     run-append step e (h.entries ++ Entry.trigger x ∷ []) (replicate k Entry.frame)
     ∙ ap (λ (y : Envelope). run step y (replicate k Entry.frame)) (run-append step e h.entries (Entry.trigger x ∷ []))
@@ -76,7 +76,7 @@ note-lengths h k =
 
     after : (x : Trigger) → leaves_alone x e.voice ≡ false
         → Envelopes.stage (envelope_of (frames_more k (more h (Entry.trigger x ∷ [])))) ≡ counted x (settings_of h) (timing_of h)
-    after x s = ap Envelopes.stage (struck h x k) ∙ stage-lengths e x s k ∙ ap₂ (counted x) (history-kept h).0 (history-kept h).1
+    after x s = ap Envelopes.stage (triggered h x k) ∙ stage-lengths e x s k ∙ ap₂ (counted x) (history-kept h).0 (history-kept h).1
 
     first : place (settings_of h) (timing_of h) (note_level New e.voice) ≡ 0
     first = rw (history-kept h).0 (new-note-place (settings_of h) (timing_of h))

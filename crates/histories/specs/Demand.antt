@@ -10,7 +10,7 @@ use Rattle.settings.specs.declared.settings.Trigger.{Trigger}
 use Rattle.settings.specs.declared.settings.Trigger.TheVariants.{New}
 use Rattle.settings.specs.declared.stages.Stage.{Stage}
 use Rattle.settings.specs.declared.stages.Stage.TheVariants.{Attack, Sustain}
-use Rattle.settings.specs.Stages.{leads_up}
+use Rattle.settings.specs.Stages.{is_before_sustain}
 use Rattle.lane.specs.Planning.{spec, join_attack}
 use Rattle.lane.specs.Voices.{leaves_alone, note_level}
 use Rattle.lane.specs.Schedule.{scheduled}
@@ -119,41 +119,41 @@ effect k (Call.join v from) w = only v w (copy from)
 effect k (Call.process len) w = enter (replicate (len / stride_of k.voices) Entry.frame)
 effect k (Call.ask q) w = enter []
 
-abbrev pub changed : (ℕ → List Entry) → ℕ → Effect → List Entry
-changed es w (enter new) = es w ++ new
-changed es w (copy u) = es u
+abbrev pub after_effect : (ℕ → List Entry) → ℕ → Effect → List Entry
+after_effect es w (enter new) = es w ++ new
+after_effect es w (copy u) = es u
 
 -- What a list of calls tells: of the bank as a whole, and each voice's entries.
-pub record Reading : Type 0 where
+pub record Histories : Type 0 where
   pub known : Known
   pub fresh : Fresh
   pub entries : ℕ → List Entry
 
-abbrev pub history : Reading → ℕ → History
+abbrev pub history : Histories → ℕ → History
 history r v = record { fresh = r.fresh; entries = r.entries v }
 
-abbrev pub grown : Reading → Call → Reading
-grown r c = record { known = learned r.known c; fresh = r.fresh; entries = λ w. changed r.entries w (effect r.known c w) }
+abbrev pub extended : Histories → Call → Histories
+extended r c = record { known = learned r.known c; fresh = r.fresh; entries = λ w. after_effect r.entries w (effect r.known c w) }
 
 -- One call more: a refused one enters nothing.
-unfoldable pub read : Reading → Call → Reading
-read r c = if_accepted (refusal r.known c) (grown r c) r
+unfoldable pub after_call : Histories → Call → Histories
+after_call r c = if_accepted (refusal r.known c) (extended r c) r
 
-unfoldable pub first_reading : Opening → Reading
-first_reading o =
+unfoldable pub fresh_histories : Opening → Histories
+fresh_histories o =
     let p = opened o in
     record { known = known_of p; fresh = record { params = p.params; timing = p.timing }; entries = λ w. [] }
 
-unfoldable pub reading : Opening → List Call → Reading
-reading o cs = run read (first_reading o) cs
+unfoldable pub histories_of : Opening → List Call → Histories
+histories_of o cs = run after_call (fresh_histories o) cs
 
 -- The history of the voice v after a fresh call and these calls.
 abbrev pub history_of : Opening → List Call → ℕ → History
-history_of o cs v = history (reading o cs) v
+history_of o cs v = history (histories_of o cs) v
 
 -- The number that refuses a call after these, 0 if it is accepted.
 abbrev pub refusal_after : Opening → List Call → Call → ℕ
-refusal_after o cs c = refusal (reading o cs).known c
+refusal_after o cs c = refusal (histories_of o cs).known c
 
 -- ---- the bank after a list, by the definitions that its functions' statements cite
 
@@ -194,17 +194,17 @@ level_at o cs out k v = get_or (written_after o cs out) (k * stride o + v) nan
 -- ---- what the histories say that a call answers
 
 -- The rows k, k + 1, .. of m frames, where row k is handed out after k frames more.
-abbrev pub due_rows : Reading → ℕ → ℕ → List Float
-due_rows r k zero = []
-due_rows r k (suc m) = Banks.row r.known.voices (λ v. level_of (frames_more k (history r v))) ++ due_rows r (suc k) m
+abbrev pub expected_rows : Histories → ℕ → ℕ → List Float
+expected_rows r k zero = []
+expected_rows r k (suc m) = Banks.row r.known.voices (λ v. level_of (frames_more k (history r v))) ++ expected_rows r (suc k) m
 
 -- The refusal's number, or what the envelopes of the histories up to the call answer.
-unfoldable pub due : Reading → Call → Reply
-due r c = Replies.replied r.known (λ v. envelope_of (history r v)) (λ m. due_rows r 0 m) c
+unfoldable pub expected_reply : Histories → Call → Reply
+expected_reply r c = Replies.reply_from r.known (λ v. envelope_of (history r v)) (λ m. expected_rows r 0 m) c
 
-unfoldable pub dues : Reading → List Call → List Reply
-dues r [] = []
-dues r (c ∷ cs) = due r c ∷ dues (read r c) cs
+unfoldable pub expected_replies : Histories → List Call → List Reply
+expected_replies r [] = []
+expected_replies r (c ∷ cs) = expected_reply r c ∷ expected_replies (after_call r c) cs
 
 -- ---- the claim
 
@@ -225,12 +225,12 @@ pub record Drawn (o : Opening) (cs : List Call) (out : List Float) : Type 0 wher
   pub refused : refusal_after o cs (Call.process (length out)) ≢ 0 → written_after o cs out ≡ out
 
 -- Lead of an envelope: of the range that document 01 leaves it, the true number.
-pub record Led (e : Envelope) : Type 0 where
+pub record LeadExact (e : Envelope) : Type 0 where
   -- Were only frames to follow, Sustain comes after so many, and not before.
-  pub then : leads_up (Envelopes.stage e) ≡ true → Envelopes.stage (Envelopes.frames (Envelopes.lead e) e) ≡ Sustain
-  pub before : leads_up (Envelopes.stage e) ≡ true → (k : ℕ) → k < Envelopes.lead e → Envelopes.stage (Envelopes.frames k e) ≢ Sustain
+  pub then : is_before_sustain (Envelopes.stage e) ≡ true → Envelopes.stage (Envelopes.frames (Envelopes.lead e) e) ≡ Sustain
+  pub before : is_before_sustain (Envelopes.stage e) ≡ true → (k : ℕ) → k < Envelopes.lead e → Envelopes.stage (Envelopes.frames k e) ≢ Sustain
   -- In Idle, Sustain and Release.
-  pub none : leads_up (Envelopes.stage e) ≡ false → Envelopes.lead e ≡ 0
+  pub none : is_before_sustain (Envelopes.stage e) ≡ false → Envelopes.lead e ≡ 0
 
 -- One list: any fresh call, accepted or refused, and any calls after it, in any order, with any numbers and output lengths.
 pub record OneList (o : Opening) (cs : List Call) : Type 0 where
@@ -243,16 +243,16 @@ pub record OneList (o : Opening) (cs : List Call) : Type 0 where
   pub stage : (v : ℕ) → v < voices_of o → stage_at o cs v ≡ Envelopes.stage (envelope_of (history_of o cs v))
   pub level : (v : ℕ) → v < voices_of o → next_level o cs v ≡ level_of (history_of o cs v)
   -- Each call, wherever it stands, is refused by document 01's number, or answers what the envelopes of the histories up to it say.
-  pub replies : replies_from (Banks.new o).bank cs ≡ dues (first_reading o) cs
+  pub replies : replies_from (Banks.new o).bank cs ≡ expected_replies (fresh_histories o) cs
   -- 'Lead answers as allowed above for that envelope.'
-  pub lead : (v : ℕ) → v < voices_of o → Led (envelope_of (history_of o cs v))
+  pub lead : (v : ℕ) → v < voices_of o → LeadExact (envelope_of (history_of o cs v))
   -- The number beside the bank that a call returns is the same one, read from the calls before it.
   pub number :
       (pre post : List Call) (c : Call) → cs ≡ pre ++ c ∷ post → (Banks.answer (bank_after o pre) c).refusal ≡ refusal_after o pre c
   -- A refused call, wherever it stands, leaves the bank as it was and enters nothing.
   pub refused :
       (pre post : List Call) (c : Call) → cs ≡ pre ++ c ∷ post → refusal_after o pre c ≢ 0
-      → (bank_after o (pre ++ c ∷ []) ≡ bank_after o pre) × (reading o (pre ++ c ∷ []) ≡ reading o pre)
+      → (bank_after o (pre ++ c ∷ []) ≡ bank_after o pre) × (histories_of o (pre ++ c ∷ []) ≡ histories_of o pre)
   -- Each process, wherever it stands, writes the levels of the histories before it.
   pub drawn : (pre post : List Call) (out : List Float) → cs ≡ pre ++ Call.process (length out) ∷ post → Drawn o pre out
 
@@ -273,7 +273,7 @@ pub record TwoLists (o₁ o₂ : Opening) (cs₁ cs₂ : List Call) (v w : ℕ) 
 -- A block of a + c frames anywhere in a list, and the same frames in two blocks: the same bank and histories, and the same replies from there on.
 pub record Cut (o : Opening) (pre post : List Call) (a c : ℕ) : Type 0 where
   pub bank : bank_after o (pre ++ block o (a + c) ∷ post) ≡ bank_after o (pre ++ block o a ∷ block o c ∷ post)
-  pub reading : reading o (pre ++ block o (a + c) ∷ post) ≡ reading o (pre ++ block o a ∷ block o c ∷ post)
+  pub histories : histories_of o (pre ++ block o (a + c) ∷ post) ≡ histories_of o (pre ++ block o a ∷ block o c ∷ post)
   pub replies :
       replies_from (bank_after o (pre ++ block o (a + c) ∷ [])) post ≡ replies_from (bank_after o (pre ++ block o a ∷ block o c ∷ [])) post
   -- The one block writes what the two write, one after the other.

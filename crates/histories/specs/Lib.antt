@@ -1,3 +1,3 @@
 -- The theorem over whole lists of calls, and document 01's bench table.
 pub mod Demand
-pub mod Bench
+pub mod BenchValues

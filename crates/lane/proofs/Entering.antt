@@ -15,8 +15,8 @@ use Rattle.lane.specs.declared.lanes.Spec.{Spec}
 use Rattle.lane.specs.declared.lanes.Joined.{Joined}
 use Rattle.lane.specs.declared.lanes.Lane.{Lane}
 use Rattle.lane.specs.declared.lanes.Voice.{Voice}
-use Rattle.settings.specs.Stages.{next, holds}
-use Rattle.lane.specs.Planning.{spec, join, start_segment, find_from, find, hold, begin, settle, enter, moved}
+use Rattle.settings.specs.Stages.{next, is_untimed}
+use Rattle.lane.specs.Planning.{spec, join, start_segment, find_from, find, begin_untimed, begin, settle, enter, past_segment}
 use Rattle.lane.specs.Voices.{frames}
 use Rattle.lane.specs.Readings.{rest, lasts}
 use Rattle.lane.proofs.Finding.{find-timed, find_skips}
@@ -32,11 +32,11 @@ module _ (l : Lane) (t : Timing) (s : Stage) (ℓ : Float) where
   abbrev pub joined : Joined
   joined = join l.params s ℓ planned
 
-  pub enter-begins : holds s ≡ false → joined.pos < planned.total → enter l t s ℓ ≡ begin l s planned joined.from planned.total joined.pos
+  pub enter-begins : is_untimed s ≡ false → joined.pos < planned.total → enter l t s ℓ ≡ begin l s planned joined.from planned.total joined.pos
   unfolding enter settle
   enter-begins e h = rw (find-timed l.params t s ℓ e h, e)
 
-  pub enter_skips : holds s ≡ false → planned.total ≤ joined.pos → enter l t s ℓ ≡ enter l t (next s) planned.to
+  pub enter_skips : is_untimed s ≡ false → planned.total ≤ joined.pos → enter l t s ℓ ≡ enter l t (next s) planned.to
   unfolding enter
   enter_skips e h = ap (settle l) (find_skips l.params t s ℓ e h)
 
@@ -51,20 +51,20 @@ pub record Passes (p : EnvelopeParams) (t : Timing) (v : Voice) (s : Stage) (ℓ
 
 pub runs-out : (B : ℕ) → B ≤ largest → (t : Timing) (v : Voice) → Timed B v
     → Entering v.lane.params t (frames (rest v) t v) (next v.lane.stage) v.lane.to
-unfolding moved
+unfolding past_segment
 runs-out B large t v q =
     let n = rest v - 1 in
     let i : 1 ≤ rest v = rest_some B v q in
     let e : rest v ≡ n + 1 = omega arith in
     let w = frames n t v in
     let o = stays B large t n v q (omega arith) in (
-      moved w.lane,
+      past_segment w.lane,
       o.params,
       ap (λ (x : ℕ). frames x t v) e ∙ frames-add t n 1 v ∙ ends B large t w o.still (omega arith)
-          ∙ ap₂ (λ (s : Stage) (ℓ : Float). enter (moved w.lane) t (next s) ℓ) o.stage o.to,
+          ∙ ap₂ (λ (s : Stage) (ℓ : Float). enter (past_segment w.lane) t (next s) ℓ) o.stage o.to,
     )
 
-enter-passes : (l : Lane) (t : Timing) (s : Stage) (ℓ : Float) → holds s ≡ false → Passes l.params t (enter l t s ℓ) s ℓ
+enter-passes : (l : Lane) (t : Timing) (s : Stage) (ℓ : Float) → is_untimed s ≡ false → Passes l.params t (enter l t s ℓ) s ℓ
 unfolding lasts begin start_segment
 enter-passes l t s ℓ e = go (ltb at.pos sp.total) refl
   where
@@ -92,12 +92,12 @@ enter-passes l t s ℓ e = go (ltb at.pos sp.total) refl
         record { during = λ k i. absurd (omega arith); follows = rw z (l, refl, enter_skips l t s ℓ e h) }
 
 module _ (t : Timing) (p : EnvelopeParams) where
-  pub passes : (v : Voice) (s : Stage) (ℓ : Float) → holds s ≡ false → Entering p t v s ℓ → Passes p t v s ℓ
+  pub passes : (v : Voice) (s : Stage) (ℓ : Float) → is_untimed s ≡ false → Entering p t v s ℓ → Passes p t v s ℓ
   passes v s ℓ e (l, i, w) =
       subst (λ (x : Voice). Passes p t x s ℓ) (sym w)
       (subst (λ (x : EnvelopeParams). Passes x t (enter l t s ℓ) s ℓ) i (enter-passes l t s ℓ e))
 
   pub sustains : (k : ℕ) (v : Voice) (ℓ : Float) → Entering p t v Sustain ℓ → (frames k t v).lane.stage ≡ Sustain
-  unfolding enter find find_from settle hold
+  unfolding enter find find_from settle begin_untimed
   sustains k v ℓ (l, i, w) =
       ap (λ (x : Voice). (frames k t x).lane.stage) w ∙ ap (λ (x : Voice). x.lane.stage) (frames-untimed t k (enter l t Sustain ℓ) refl)

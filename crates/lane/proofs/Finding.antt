@@ -10,11 +10,11 @@ use Rattle.timing.specs.declared.Timing.{Timing}
 use Rattle.settings.specs.declared.settings.EnvelopeParams.{EnvelopeParams}
 use Rattle.settings.specs.declared.stages.Stage.{Stage}
 use Rattle.settings.specs.declared.stages.Stage.TheVariants.{Idle, Delay, Attack, Hold, Decay, Sustain, Release}
-use Rattle.settings.specs.Stages.{next, holds, timed_stages}
+use Rattle.settings.specs.Stages.{next, is_untimed, timed_stages}
 use Rattle.lane.specs.Planning.{spec, join, find, find_from}
 use Rattle.lane.specs.Readings.{lasts, last_from}
 
-pub timed-next : (s : Stage) → holds s ≡ false → timed_stages s ≡ suc (timed_stages (next s))
+pub timed-next : (s : Stage) → is_untimed s ≡ false → timed_stages s ≡ suc (timed_stages (next s))
 timed-next Idle h = absurd (true≢false h)
 timed-next Delay h = refl
 timed-next Attack h = refl
@@ -23,7 +23,7 @@ timed-next Decay h = refl
 timed-next Sustain h = absurd (true≢false h)
 timed-next Release h = refl
 
-pub untimed-none : (s : Stage) → holds s ≡ true → timed_stages s ≡ 0
+pub untimed-none : (s : Stage) → is_untimed s ≡ true → timed_stages s ≡ 0
 untimed-none Idle h = refl
 untimed-none Delay h = absurd (false≢true h)
 untimed-none Attack h = absurd (false≢true h)
@@ -33,26 +33,26 @@ untimed-none Sustain h = refl
 untimed-none Release h = absurd (false≢true h)
 
 module _ (p : EnvelopeParams) (t : Timing) (s : Stage) (level : Float) where
-  pub find-holds : holds s ≡ true
+  pub find-untimed : is_untimed s ≡ true
       → let sp = spec p s t level in find p t s level ≡ record { stage = s; spec = sp; joined = record { from = sp.to; pos = 0 } }
   unfolding find find_from
-  find-holds h = rw (untimed-none s h)
+  find-untimed h = rw (untimed-none s h)
 
-  pub find-timed : holds s ≡ false
+  pub find-timed : is_untimed s ≡ false
       → let sp = spec p s t level in let j = join p s level sp in j.pos < sp.total → find p t s level ≡ record { stage = s; spec = sp; joined = j }
   unfolding find find_from
   find-timed h k = rw (timed-next s h, lt-ltb (join p s level (spec p s t level)).pos (spec p s t level).total k)
 
-  pub find_skips : holds s ≡ false
+  pub find_skips : is_untimed s ≡ false
       → let sp = spec p s t level in sp.total ≤ (join p s level sp).pos → find p t s level ≡ find p t (next s) sp.to
   unfolding find find_from
   find_skips h k = rw (timed-next s h, le-ltb (join p s level (spec p s t level)).pos (spec p s t level).total k)
 
-  pub last-holds : holds s ≡ true → last_from (timed_stages s) p t s level ≡ 0
+  pub last-untimed : is_untimed s ≡ true → last_from (timed_stages s) p t s level ≡ 0
   unfolding last_from
-  last-holds h = rw (untimed-none s h)
+  last-untimed h = rw (untimed-none s h)
 
-  pub last-timed : holds s ≡ false
+  pub last-timed : is_untimed s ≡ false
       → last_from (timed_stages s) p t s level ≡ lasts p t s level + last_from (timed_stages (next s)) p t (next s) (spec p s t level).to
   unfolding last_from
   last-timed h = rw (timed-next s h)

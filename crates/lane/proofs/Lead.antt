@@ -10,7 +10,7 @@ use native.Mathlib.Omega.{arith}
 use borrow.Author.Tests.{ltb-true, ltb-false, lt-ltb, le-ltb}
 use lib.Dec.{ltb}
 use lib.Ieee.{Float}
-use Rattle.numbers.specs.Counts.{held}
+use Rattle.numbers.specs.Counts.{saturated}
 use Rattle.timing.specs.declared.Timing.{Timing}
 use Rattle.timing.specs.Samples.{samples}
 use Rattle.settings.specs.declared.settings.EnvelopeParams.{EnvelopeParams}
@@ -18,7 +18,7 @@ use Rattle.settings.specs.declared.settings.Trigger.{Trigger}
 use Rattle.settings.specs.declared.stages.Stage.{Stage}
 use Rattle.settings.specs.declared.stages.Stage.TheVariants.{Idle, Delay, Attack, Hold, Decay, Sustain, Release}
 use Rattle.lane.specs.declared.lanes.Voice.{Voice}
-use Rattle.settings.specs.Stages.{next, holds, timed_stages, leads_up}
+use Rattle.settings.specs.Stages.{next, is_untimed, timed_stages, is_before_sustain}
 use Rattle.lane.specs.Planning.{spec}
 use Rattle.lane.specs.Voices.{leaves_alone, note_level, trigger, frames}
 use Rattle.lane.specs.Readings.{rest, lasts, last_from, lead}
@@ -27,7 +27,7 @@ use Rattle.lane.proofs.Counts.{largest, Counted, counted}
 use Rattle.lane.proofs.Frames.{frames-add, frames-from}
 use Rattle.lane.proofs.Timed.{Timed, stays}
 use Rattle.lane.proofs.Entering.{Entering, runs-out, passes, sustains}
-use Rattle.lane.proofs.Sound.{Sound, holding, timed, restart-sound, frames-sound}
+use Rattle.lane.proofs.Sound.{Sound, untimed_stage, timed_stage, restart-sound, frames-sound}
 use Rattle.lane.proofs.Lengths.{attack_lasts, lengths}
 
 -- In Sustain after n frames, and not before.
@@ -52,19 +52,19 @@ module _ (t : Timing) where
       }
 
   -- n frames in a stage that takes time, and then m.
-  until_add : (v : Voice) (s : Stage) (n m : ℕ) → holds s ≡ false → ((k : ℕ) → k < n → (frames k t v).lane.stage ≡ s)
+  until_add : (v : Voice) (s : Stage) (n m : ℕ) → is_untimed s ≡ false → ((k : ℕ) → k < n → (frames k t v).lane.stage ≡ s)
       → Until t (frames n t v) m → Until t v (n + m)
   until_add v s n m e w u = record { before = λ k h i. early k (ltb k n) refl h i; then = rw (frames-add t n m v) u.then }
     where
       early : (k : ℕ) (x : Bool) → ltb k n ≡ x → k < n + m → (frames k t v).lane.stage ≡ Sustain → ⊥
-      early k true y h i = true≢false (sym (ap holds (sym (w k (ltb-true k n y)) ∙ i)) ∙ e)
+      early k true y h i = true≢false (sym (ap is_untimed (sym (w k (ltb-true k n y)) ∙ i)) ∙ e)
       early k false y h i =
           let l : n ≤ k = ltb-false k n y in
           u.before (k - n) (omega arith) (rw (frames-from t n k v l) at i)
 
 -- ---- a sound voice
 
-takes_time : (s : Stage) → leads_up s ≡ true → holds s ≡ false
+takes_time : (s : Stage) → is_before_sustain s ≡ true → is_untimed s ≡ false
 takes_time Idle a = absurd (false≢true a)
 takes_time Delay a = refl
 takes_time Attack a = refl
@@ -78,7 +78,7 @@ abbrev pub lead_sum : Timing → Voice → ℕ
 lead_sum t v = let s = next v.lane.stage in rest v + last_from (timed_stages s) v.lane.params t s v.lane.to
 
 module _ (t : Timing) (p : EnvelopeParams) where
-  until_entered : (s : Stage) (ℓ : Float) (m : ℕ) → holds s ≡ false
+  until_entered : (s : Stage) (ℓ : Float) (m : ℕ) → is_untimed s ≡ false
       → ((w : Voice) → Entering p t w (next s) (spec p s t ℓ).to → Until t w m)
       → (v : Voice) → Entering p t v s ℓ → Until t v (lasts p t s ℓ + m)
   until_entered s ℓ m e f v i =
@@ -88,7 +88,7 @@ module _ (t : Timing) (p : EnvelopeParams) where
   until_now : (ℓ : Float) (v : Voice) → Entering p t v Sustain ℓ → Until t v 0
   until_now ℓ v i = record { before = λ k h. absurd (omega arith); then = sustains t p 0 v ℓ i }
 
-  until_next : (s : Stage) → leads_up s ≡ true → (ℓ : Float) (v : Voice) → Entering p t v (next s) ℓ
+  until_next : (s : Stage) → is_before_sustain s ≡ true → (ℓ : Float) (v : Voice) → Entering p t v (next s) ℓ
       → Until t v (last_from (timed_stages (next s)) p t (next s) ℓ)
   unfolding last_from
   until_next Idle a ℓ = absurd (false≢true a)
@@ -99,11 +99,11 @@ module _ (t : Timing) (p : EnvelopeParams) where
   until_next Sustain a ℓ = absurd (false≢true a)
   until_next Release a ℓ = absurd (false≢true a)
 
-is-timed : (B : ℕ) (v : Voice) → Sound B v → leads_up v.lane.stage ≡ true → Timed B v
-is-timed B v (timed e q) a = q
-is-timed B v (holding e u) a = absurd (true≢false (sym e ∙ takes_time v.lane.stage a))
+is-timed : (B : ℕ) (v : Voice) → Sound B v → is_before_sustain v.lane.stage ≡ true → Timed B v
+is-timed B v (timed_stage e q) a = q
+is-timed B v (untimed_stage e u) a = absurd (true≢false (sym e ∙ takes_time v.lane.stage a))
 
-pub lead_sum_exact : (B : ℕ) → B ≤ largest → (t : Timing) (v : Voice) → Sound B v → leads_up v.lane.stage ≡ true → Until t v (lead_sum t v)
+pub lead_sum_exact : (B : ℕ) → B ≤ largest → (t : Timing) (v : Voice) → Sound B v → is_before_sustain v.lane.stage ≡ true → Until t v (lead_sum t v)
 lead_sum_exact B large t v i a =
     let q = is-timed B v i a in
     until_add t v v.lane.stage (rest v) _ (takes_time v.lane.stage a) (λ k h. (stays B large t k v q h).stage)
@@ -117,7 +117,7 @@ last_from_le B p t c zero s ℓ = omega arith
 last_from_le B p t c (suc n) s ℓ = omega (arith, c s ℓ, last_from_le B p t c n (next s) (spec p s t ℓ).to, suc-mul n B)
 
 pub lead_plain : (B : ℕ) → 4 * B ≤ largest → (t : Timing) (v : Voice) → Counted B v.lane.params t → Sound B v
-    → leads_up v.lane.stage ≡ true → lead t v ≡ lead_sum t v
+    → is_before_sustain v.lane.stage ≡ true → lead t v ≡ lead_sum t v
 unfolding lead rest
 lead_plain B b t v c i a =
     let s = next v.lane.stage in
@@ -137,17 +137,17 @@ lead_plain B b t v c i a =
 
 -- Under document 01's limits B is 659,706,976,665,600.
 pub lead_exact : (B : ℕ) → 4 * B ≤ largest → (t : Timing) (v : Voice) → Counted B v.lane.params t → Sound B v
-    → leads_up v.lane.stage ≡ true → Until t v (lead t v)
+    → is_before_sustain v.lane.stage ≡ true → Until t v (lead t v)
 lead_exact B b t v c i a = rw (lead_plain B b t v c i a) (lead_sum_exact B (omega arith) t v i a)
 
 -- ---- after a trigger that starts the stages over
 
 module _ (d a h c : ℕ) where
-  scheduled-leads : (k : ℕ) → k < d + a + h + c → leads_up (scheduled d a h c k) ≡ true
+  scheduled-leads : (k : ℕ) → k < d + a + h + c → is_before_sustain (scheduled d a h c k) ≡ true
   unfolding scheduled
   scheduled-leads k i = rw (lt-ltb k (d + a + h + c) i) (go (ltb k d) (ltb k (d + a)) (ltb k (d + a + h)))
     where
-      go : (x y z : Bool) → leads_up (cond x Delay (cond y Attack (cond z Hold Decay))) ≡ true
+      go : (x y z : Bool) → is_before_sustain (cond x Delay (cond y Attack (cond z Hold Decay))) ≡ true
       go true y z = refl
       go false true z = refl
       go false false true = refl
@@ -166,13 +166,13 @@ module _ (t : Timing) (x : Trigger) (v : Voice) (e : leaves_alone x v ≡ false)
   abbrev span : ℕ
   span = until_sustain t v.lane.params (note_level x v)
 
-  leads : (k : ℕ) → k < span → leads_up (frames k t (trigger t x v)).lane.stage ≡ true
+  leads : (k : ℕ) → k < span → is_before_sustain (frames k t (trigger t x v)).lane.stage ≡ true
   leads k h = rw (lengths t x v k e) (scheduled-leads _ _ _ _ k h)
 
   pub until_sustain_lem : Until t (trigger t x v) span
   until_sustain_lem =
       record {
-        before = λ k h i. true≢false (sym (leads k h) ∙ ap leads_up i);
+        before = λ k h i. true≢false (sym (leads k h) ∙ ap is_before_sustain i);
         then = lengths t x v span e ∙ scheduled-ends _ _ _ _ span (omega arith);
       }
 
@@ -185,12 +185,12 @@ module _ (t : Timing) (x : Trigger) (v : Voice) (e : leaves_alone x v ≡ false)
       (until_later t (trigger t x v) j span (omega arith) until_sustain_lem)
 
   -- At every frame: in Sustain nothing is left.
-  pub lead-scheduled : (j : ℕ) → lead t (frames j t (trigger t x v)) ≡ held (span - j)
+  pub lead-scheduled : (j : ℕ) → lead t (frames j t (trigger t x v)) ≡ saturated (span - j)
   unfolding lead
   lead-scheduled j = go (ltb j span) refl
     where
-      go : (y : Bool) → ltb j span ≡ y → lead t (frames j t (trigger t x v)) ≡ held (span - j)
-      go true y = let h : j < span = ltb-true j span y in rw (leads j h) (ap held (lead_sum_scheduled j h))
+      go : (y : Bool) → ltb j span ≡ y → lead t (frames j t (trigger t x v)) ≡ saturated (span - j)
+      go true y = let h : j < span = ltb-true j span y in rw (leads j h) (ap saturated (lead_sum_scheduled j h))
       go false y =
           let h : span ≤ j = ltb-false j span y in
           let z : span - j ≡ 0 = omega arith in

@@ -15,7 +15,7 @@ use Rattle.settings.specs.declared.settings.Trigger.{Trigger}
 use Rattle.settings.specs.declared.stages.Stage.{Stage}
 use Rattle.settings.specs.declared.stages.Stage.TheVariants.{Delay, Attack, Hold, Decay, Sustain}
 use Rattle.lane.specs.declared.lanes.Voice.{Voice}
-use Rattle.settings.specs.Stages.{next, holds}
+use Rattle.settings.specs.Stages.{next, is_untimed}
 use Rattle.lane.specs.Planning.{spec, join, join_attack}
 use Rattle.lane.specs.Voices.{leaves_alone, note_level, trigger, frames}
 use Rattle.lane.specs.Readings.{lasts}
@@ -29,7 +29,7 @@ attack_lasts t p ℓ = samples t p.attack p.unit - (join_attack p ℓ (spec p At
 
 module _ (t : Timing) (p : EnvelopeParams) (v : Voice) (k : ℕ) where
   -- The stage s is entered after m frames and lasts n; then the others.
-  from : (m n : ℕ) (s others : Stage) (ℓ : Float) → holds s ≡ false → n ≡ lasts p t s ℓ → Entering p t (frames m t v) s ℓ → m ≤ k
+  from : (m n : ℕ) (s others : Stage) (ℓ : Float) → is_untimed s ≡ false → n ≡ lasts p t s ℓ → Entering p t (frames m t v) s ℓ → m ≤ k
       → (Entering p t (frames (m + n) t v) (next s) (spec p s t ℓ).to → m + n ≤ k → (frames k t v).lane.stage ≡ others)
       → (frames k t v).lane.stage ≡ cond (ltb k (m + n)) s others
   from m n s others ℓ e z i h r = go (ltb k (m + n)) refl

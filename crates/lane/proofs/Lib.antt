@@ -8,4 +8,4 @@ pub mod Sound
 pub mod Lengths
 pub mod Lead
 pub mod NewNote
-pub mod Bench
+pub mod BenchValues

@@ -19,7 +19,7 @@ use Rattle.lane.specs.declared.lanes.Spec.{Spec}
 use Rattle.lane.specs.declared.lanes.Lane.{Lane}
 use Rattle.lane.specs.declared.lanes.Voice.{Voice}
 use Rattle.settings.specs.Stages.{next}
-use Rattle.lane.specs.Planning.{start_segment, begin, enter, moved, advance}
+use Rattle.lane.specs.Planning.{start_segment, begin, enter, past_segment, advance}
 use Rattle.lane.specs.Voices.{elapsed, stepped, frame, frames}
 use Rattle.lane.specs.Readings.{rest}
 use Rattle.lane.proofs.Counts.{largest}
@@ -38,7 +38,7 @@ pub record Timed (B : ℕ) (v : Voice) : Type 0 where
 pub record Unguarded (v : Voice) : Type 0 where
   pub some_left : 1 ≤ v.seg.left
   pub some_curve : v.lane.pos < v.lane.curve_total
-  pub moved_plain : (moved v.lane).pos ≡ v.lane.pos + v.lane.seg_len
+  pub past_segment_plain : (past_segment v.lane).pos ≡ v.lane.pos + v.lane.seg_len
   pub segment_in_curve : v.lane.pos + v.lane.seg_len ≤ v.lane.curve_total
   pub left_in_segment : v.seg.left ≤ v.lane.seg_len
   pub curve_in_stage : v.lane.curve_total ≤ v.lane.spec.total
@@ -46,7 +46,7 @@ pub record Unguarded (v : Voice) : Type 0 where
   pub elapsed-rest : elapsed v + rest v ≡ v.lane.spec.total
 
 pub unguarded : (B : ℕ) → B ≤ largest → (v : Voice) → Timed B v → Unguarded v
-unfolding moved elapsed rest
+unfolding past_segment elapsed rest
 unguarded B b v q = omega arith
 
 -- ---- the start of a segment
@@ -89,14 +89,14 @@ rest_some B v q = omega arith
 module _ (B : ℕ) (large : B ≤ largest) (t : Timing) where
   -- With more than one sample left the stage goes on.
   pub goes_on : (v : Voice) → Timed B v → 1 < rest v → Later B v (frame t v) 1
-  unfolding frame advance moved stepped rest start_segment
+  unfolding frame advance past_segment stepped rest start_segment
   goes_on v q h = rw (ne_eqb v.seg.left untimed (λ e. omega arith)) (go (eqb (v.seg.left - 1) 0) refl)
     where
       l : Lane
       l = v.lane
 
       m : Lane
-      m = moved l
+      m = past_segment l
 
       go : (x : Bool) → eqb (v.seg.left - 1) 0 ≡ x
           → Later B v (cond x (advance t l) (record { lane = l; seg = stepped v.seg (v.seg.left - 1) })) 1
@@ -112,10 +112,10 @@ module _ (B : ℕ) (large : B ≤ largest) (t : Timing) where
           record { params = refl; stage = refl; to = refl; still = omega arith; left = omega arith }
 
   -- With one left the next stage is entered.
-  pub ends : (v : Voice) → Timed B v → rest v ≡ 1 → frame t v ≡ enter (moved v.lane) t (next v.lane.stage) v.lane.to
-  unfolding advance moved rest
+  pub ends : (v : Voice) → Timed B v → rest v ≡ 1 → frame t v ≡ enter (past_segment v.lane) t (next v.lane.stage) v.lane.to
+  unfolding advance past_segment rest
   ends v q h =
-      let m = moved v.lane in
+      let m = past_segment v.lane in
       let a : m.curve_total ≤ m.pos = omega arith in
       frame-last t v (omega arith) ∙ rw (le-ltb m.pos m.curve_total a)
 

@@ -3,4 +3,4 @@ pub mod Planning
 pub mod Voices
 pub mod Readings
 pub mod Schedule
-pub mod Bench
+pub mod BenchVoices

@@ -7,7 +7,7 @@ use Rattle.numbers.specs.Constants.{one}
 use Rattle.numbers.specs.Rounded.{◌⊗◌}
 use Rattle.numbers.specs.Limits.{unit}
 use Rattle.numbers.specs.Conversions.{round_u64}
-use Rattle.numbers.specs.Counts.{held}
+use Rattle.numbers.specs.Counts.{saturated}
 use Rattle.numbers.specs.StandIns.{whole}
 use Rattle.timing.specs.declared.Timing.{Timing}
 use Rattle.timing.specs.Samples.{samples}
@@ -21,7 +21,7 @@ use Rattle.lane.specs.declared.lanes.Lane.{Lane}
 use Rattle.lane.specs.declared.lanes.Voice.{Voice}
 use Rattle.lane.specs.declared.lanes.Joined.{Joined}
 use Rattle.lane.specs.declared.lanes.Entered.{Entered}
-use Rattle.settings.specs.Stages.{next, holds, timed_stages}
+use Rattle.settings.specs.Stages.{next, is_untimed, timed_stages}
 
 -- Lane::new: an idle envelope with these settings, and the segment that it draws.
 unfoldable pub new : EnvelopeParams → Voice
@@ -109,8 +109,8 @@ unfoldable pub find : EnvelopeParams → Timing → Stage → Float → Entered
 find p t s level = find_from (timed_stages s) p t s level
 
 -- An untimed stage. The plan of the last curve stays as it was; nothing reads it.
-unfoldable pub hold : Lane → Stage → Spec → Voice
-hold l s sp =
+unfoldable pub begin_untimed : Lane → Stage → Spec → Voice
+begin_untimed l s sp =
     record {
       lane =
           record {
@@ -145,7 +145,7 @@ begin l s sp from total pos =
 
 unfoldable pub settle : Lane → Entered → Voice
 settle l x =
-    cond (holds x.stage) (hold l x.stage x.spec)
+    cond (is_untimed x.stage) (begin_untimed l x.stage x.spec)
     (begin l x.stage x.spec x.joined.from x.spec.total x.joined.pos)
 
 -- Starts a stage at a level. Document 01: 'Entering a stage repeats until it finds one that takes time or holds, and hands that one out.'
@@ -153,8 +153,8 @@ unfoldable pub enter : Lane → Timing → Stage → Float → Voice
 enter l t s level = settle l (find l.params t s level)
 
 -- The plan with its place moved past the present segment.
-unfoldable pub moved : Lane → Lane
-moved l =
+unfoldable pub past_segment : Lane → Lane
+past_segment l =
     record {
       params = l.params;
       stage = l.stage;
@@ -163,12 +163,12 @@ moved l =
       to = l.to;
       k = l.k;
       curve_total = l.curve_total;
-      pos = held (l.pos + l.seg_len);
+      pos = saturated (l.pos + l.seg_len);
       seg_len = l.seg_len;
     }
 
 -- A segment has ended: the curve's next one follows, or the next stage.
 unfoldable pub advance : Timing → Lane → Voice
 advance t l =
-    let m = moved l in
+    let m = past_segment l in
     cond (ltb m.pos m.curve_total) (start_segment m) (enter m t (next m.stage) m.to)

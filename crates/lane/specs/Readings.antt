@@ -1,12 +1,12 @@
 -- Tail and lead, which document 01 adds.
 use Rattle.std.specs.Prelude.{ℕ, zero, suc, ◌+◌, ◌-◌, cond, Float}
-use Rattle.numbers.specs.Counts.{held}
+use Rattle.numbers.specs.Counts.{saturated}
 use Rattle.timing.specs.declared.Timing.{Timing}
 use Rattle.timing.specs.Samples.{samples}
 use Rattle.settings.specs.declared.settings.EnvelopeParams.{EnvelopeParams}
 use Rattle.settings.specs.declared.stages.Stage.{Stage}
 use Rattle.lane.specs.declared.lanes.Voice.{Voice}
-use Rattle.settings.specs.Stages.{next, timed_stages, is_idle, leads_up}
+use Rattle.settings.specs.Stages.{next, timed_stages, is_idle, is_before_sustain}
 use Rattle.lane.specs.Planning.{spec, join}
 
 -- 0 when Idle, else the release count.
@@ -30,4 +30,4 @@ last_from (suc n) p t s level = lasts p t s level + last_from n p t (next s) (sp
 unfoldable pub lead : Timing → Voice → ℕ
 lead t v =
     let s = next v.lane.stage in
-    cond (leads_up v.lane.stage) (held (rest v + last_from (timed_stages s) v.lane.params t s v.lane.to)) 0
+    cond (is_before_sustain v.lane.stage) (saturated (rest v + last_from (timed_stages s) v.lane.params t s v.lane.to)) 0

@@ -2,7 +2,7 @@
 use Rattle.std.specs.Prelude.{ℕ, zero, suc, ◌+◌, ◌-◌, Bool, false, cond, not, ◌&&◌, leb, eqb, Float}
 use Rattle.numbers.specs.Constants as Constants
 use Rattle.numbers.specs.Limits.{unit}
-use Rattle.numbers.specs.Counts.{held}
+use Rattle.numbers.specs.Counts.{saturated}
 use Rattle.timing.specs.declared.Timing.{Timing}
 use Rattle.curve.specs.declared.segments.Segment.{Segment}
 use Rattle.curve.specs.Segments.{level, next_u, untimed}
@@ -13,8 +13,8 @@ use Rattle.settings.specs.declared.settings.Trigger.{Trigger}
 use Rattle.settings.specs.declared.settings.Trigger.TheVariants.{New, Retrigger, Legato}
 use Rattle.settings.specs.declared.stages.Stage.TheVariants.{Idle, Delay, Release}
 use Rattle.lane.specs.declared.lanes.Voice.{Voice}
-use Rattle.settings.specs.Stages.{next, holds, is_idle, is_released}
-use Rattle.lane.specs.Planning.{spec, same, hold, begin, enter, advance}
+use Rattle.settings.specs.Stages.{next, is_untimed, is_idle, ignores_release}
+use Rattle.lane.specs.Planning.{spec, same, begin_untimed, begin, enter, advance}
 
 -- Whether a trigger leaves the running envelope alone: a legato note on a sounding voice that is not legato-inverted.
 unfoldable pub leaves_alone : Trigger → Voice → Bool
@@ -45,7 +45,7 @@ trigger t x v = cond (leaves_alone x v) v (enter v.lane t Delay (note_level x v)
 
 -- The note's end: Release begins at the level that the voice has, if it is not in Release or Idle.
 unfoldable pub release : Timing → Voice → Voice
-release t v = cond (is_released v.lane.stage) v (enter v.lane t Release (level v.seg))
+release t v = cond (ignores_release v.lane.stage) v (enter v.lane t Release (level v.seg))
 
 -- Idle, with no release before it. The level that is entered with is not read: Idle has the end level.
 unfoldable pub reset : Timing → Voice → Voice
@@ -53,7 +53,7 @@ reset t v = enter v.lane t Idle Constants.zero
 
 -- How many samples of the present stage have passed.
 unfoldable pub elapsed : Voice → ℕ
-elapsed v = held (held ((v.lane.spec.total - v.lane.curve_total) + v.lane.pos) + (v.lane.seg_len - v.seg.left))
+elapsed v = saturated (saturated ((v.lane.spec.total - v.lane.curve_total) + v.lane.pos) + (v.lane.seg_len - v.seg.left))
 
 -- After other settings or another timing. If the present stage has the count, target and bend that it had, nothing is changed. Else an untimed stage
 -- has its new level; a timed one is followed by the next if its new count has passed, and otherwise has a curve for the rest of it, from the level that
@@ -63,7 +63,7 @@ replan t v =
     let l = v.lane in
     let sp = spec l.params l.stage t l.to in
     cond (same sp l.spec) v
-    (cond (holds l.stage) (hold l l.stage sp)
+    (cond (is_untimed l.stage) (begin_untimed l l.stage sp)
     (cond (leb sp.total (elapsed v)) (enter l t (next l.stage) sp.to)
     (begin l l.stage sp (level v.seg) (sp.total - elapsed v) 0)))
 

@@ -139,7 +139,7 @@ fn find(p: EnvelopeParams, timing: Timing, first: Stage, first_level: f32) -> En
     // From stage to stage, as the Rust: nothing is counted, so no range is plainer.
     loop {
         let spec = spec_of(p, stage, timing, level);
-        if stage.holds() {
+        if stage.is_untimed() {
             break Entered {
                 stage,
                 spec,
@@ -195,15 +195,15 @@ impl Lane {
         let found = find(self.params, timing, stage, level);
         let stage = found.stage;
         let spec = found.spec;
-        if stage.holds() {
-            return self.hold(stage, spec);
+        if stage.is_untimed() {
+            return self.begin_untimed(stage, spec);
         }
         self.begin(stage, spec, found.joined.from, spec.total, found.joined.pos)
     }
 
     // An untimed stage. Its level needs no curve, and the last one stays in the plan, unread.
-    pub(crate) fn hold(self, stage: Stage, spec: Spec) -> Voice
-        ensures { result ≡ Planning.hold self stage spec }
+    pub(crate) fn begin_untimed(self, stage: Stage, spec: Spec) -> Voice
+        ensures { result ≡ Planning.begin_untimed self stage spec }
     {
         Voice {
             lane: Lane {

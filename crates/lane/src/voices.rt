@@ -1,6 +1,6 @@
 // What is done to one voice: notes, changes of settings and timing, frames; and what is read of it.
 ghost use Rattle.std.specs.Prelude.{◌≡◌, ◌+◌, ◌-◌};
-ghost use Rattle.numbers.specs.Counts.{held};
+ghost use Rattle.numbers.specs.Counts.{saturated};
 ghost use Rattle.lane.specs.Readings as Readings;
 ghost use Rattle.settings.specs.Stages as Stages;
 ghost use Rattle.lane.specs.Voices as Voices;
@@ -14,7 +14,7 @@ use timing::Timing;
 // curve, if it was replanned, those of the curve before the segment, and those of the segment. What an
 // attack left out when it joined its curve counts as passed.
 fn elapsed(lane: Lane, left: u32) -> u64
-    ensures { result ≡ held (held ((lane.spec.total - lane.curve_total) + lane.pos) + (lane.seg_len - left)) }
+    ensures { result ≡ saturated (saturated ((lane.spec.total - lane.curve_total) + lane.pos) + (lane.seg_len - left)) }
 {
     let before = numbers::saturating_sub(lane.spec.total, lane.curve_total);
     let drawn = numbers::saturating_sub(lane.seg_len as u64, left as u64);
@@ -23,13 +23,13 @@ fn elapsed(lane: Lane, left: u32) -> u64
 
 // How long the stages before Sustain last, from `first` on, that begins at `first_level`.
 fn stages_last(p: EnvelopeParams, timing: Timing, first: Stage, first_level: f32) -> u64
-    ensures { result ≡ held (Readings.last_from (Stages.timed_stages first) p timing first first_level) }
+    ensures { result ≡ saturated (Readings.last_from (Stages.timed_stages first) p timing first first_level) }
 {
     let mut stage = first;
     let mut level = first_level;
     let mut sum = 0;
     // From stage to stage: nothing is counted, so no range is plainer.
-    while !stage.holds() {
+    while !stage.is_untimed() {
         let spec = spec_of(p, stage, timing, level);
         let joined = join(p, stage, level, spec);
         sum = numbers::saturating_add(sum, numbers::saturating_sub(spec.total, joined.pos));
@@ -54,8 +54,8 @@ fn replanned(lane: Lane, seg: Segment, timing: Timing) -> Voice
     if spec == lane.spec {
         return Voice { lane, seg };
     }
-    if stage.holds() {
-        return lane.hold(stage, spec);
+    if stage.is_untimed() {
+        return lane.begin_untimed(stage, spec);
     }
     let elapsed = elapsed(lane, seg.left);
     if elapsed >= spec.total {
@@ -113,7 +113,7 @@ impl Voice {
     {
         // The lane by itself: taken from the voice after the test it is copied once more.
         let lane = self.lane;
-        if lane.stage.is_released() {
+        if lane.stage.ignores_release() {
             return self;
         }
         lane.enter(timing, Stage::Release, self.seg.level())
@@ -188,7 +188,7 @@ impl Voice {
         ensures { result ≡ Readings.lead timing self }
     {
         let lane = self.lane;
-        if !lane.stage.leads_up() {
+        if !lane.stage.is_before_sustain() {
             return 0;
         }
         let drawn = numbers::saturating_sub(lane.curve_total, lane.pos);

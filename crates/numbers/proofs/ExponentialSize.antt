@@ -11,10 +11,10 @@ use Rattle.numbers.proofs.Laws.Sizes.{Within, Beyond, within_finite, beyond_of_v
 
 two_or_more : (n : ℕ) → n ≤ 10 → Beyond 1 (whole (suc (suc n)))
 unfolding of_int
-two_or_more n h = beyond_of_value 1 (whole (suc (suc n))) false (suc (suc n)) (round_whole binary64 false (suc (suc n)) (held n h)) (least n)
+two_or_more n h = beyond_of_value 1 (whole (suc (suc n))) false (suc (suc n)) (round_whole binary64 false (suc (suc n)) (small n h)) (least n)
   where
-    held : (n : ℕ) → n ≤ 10 → suc (suc n) ≤ 9007199254740992
-    held n h = omega arith
+    small : (n : ℕ) → n ≤ 10 → suc (suc n) ≤ 9007199254740992
+    small n h = omega arith
 
     least : (n : ℕ) → 2 ≤ suc (suc n)
     least n = omega arith

@@ -9,4 +9,4 @@ pub mod Powers
 pub mod Logarithm
 pub mod Significand
 pub mod Bytes
-pub mod Bench
+pub mod BenchValues

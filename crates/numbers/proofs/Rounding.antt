@@ -99,8 +99,8 @@ exceeds t j h =
     e2 : (a b c : ℕ) → a ≤ b → a * 2 ≤ b * 2 + c
     e2 a b c h = omega arith
 
-pub rounded_held : (e t : ℕ) → e < 2048 → (e ≡ 2047 → t ≡ 0) → 1087 ≤ e → 2 ^ 64 - 1 ≡ round_u64 (of_fields binary64 false e t)
-rounded_held e t a z h = go (cases_lt e 2047)
+pub rounded_saturated : (e t : ℕ) → e < 2048 → (e ≡ 2047 → t ≡ 0) → 1087 ≤ e → 2 ^ 64 - 1 ≡ round_u64 (of_fields binary64 false e t)
+rounded_saturated e t a z h = go (cases_lt e 2047)
   where
     top : (e : ℕ) → e < 2048 → 2047 ≤ e → e ≡ 2047
     top e a b = omega arith

@@ -4,7 +4,7 @@ ghost use Rattle.numbers.specs.Counts as Counts;
 
 // a + b, or the largest u64 if the sum is more.
 pub fn saturating_add(a: u64, b: u64) -> u64
-    ensures { result ≡ Counts.held (a + b) }
+    ensures { result ≡ Counts.saturated (a + b) }
 {
     a.saturating_add(b)
 }

@@ -16,21 +16,21 @@ use Rattle.rows.specs.Strides.{stride_of}
 use Rattle.bank.specs.declared.known.Known.{Known}
 use Rattle.bank.specs.Calls.{Call, if_accepted, opened, refusal}
 use Rattle.bank.specs.Banks.{Bank, bank_of, size, known, envelope, frames, rows, new, answer, bytes, bytes_refusal, after_bytes, written_bytes}
-use Rattle.bank.specs.Replies.{Reply, answered, reply}
+use Rattle.bank.specs.Replies.{Reply, accepted_reply, reply}
 use Rattle.bank.proofs.Accepted.{whole, block-frames}
 use Rattle.bank.proofs.Bytes.{length-bytes}
 use Rattle.bank.proofs.Frames.{length-rows}
-use Rattle.bank.proofs.Held.{size_of}
+use Rattle.bank.proofs.Representation.{size_of}
 use Rattle.histories.proofs.Kept.{kept}
 use Rattle.events.specs.declared.Event.{Event}
 use Rattle.events.specs.Format as Format
-use Rattle.events.specs.Format.{Reading}
+use Rattle.events.specs.Format.{Parsed}
 use Rattle.events.proofs.Records as Records
 use Rattle.events.proofs.Records.{read_first}
-use Rattle.checking.specs.Deeds.{Deed, opens, calls, deed, own_refusal, known_after, frames_of}
+use Rattle.checking.specs.Actions.{Action, opens, calls, action, own_refusal, known_after, frames_of}
 use Rattle.checking.specs.Checks.{Checked, passed}
 use Rattle.checking.proofs.Passing.{Accepted}
-use Rattle.player.specs.Playing.{after, levels, handed, put}
+use Rattle.player.specs.Playing.{after, levels, action_levels, put}
 
 pub differ : true ≡ false → ⊥
 differ e = subst (λ (t : Bool). T t) e tt
@@ -41,47 +41,47 @@ differ e = subst (λ (t : Bool). T t) e tt
 
 -- ---- levels
 
-none-handed : (b : Bank) (c : Call) → answered (known b) (envelope b) (λ n. rows n b) c ≡ Reply.done → levels (reply b c) ≡ []
+no_levels : (b : Bank) (c : Call) → accepted_reply (known b) (envelope b) (λ n. rows n b) c ≡ Reply.done → levels (reply b c) ≡ []
 unfolding levels reply
-none-handed b c e = go (refusal (known b) c)
+no_levels b c e = go (refusal (known b) c)
   where
-    go : (n : ℕ) → levels (if_accepted n (answered (known b) (envelope b) (λ n. rows n b) c) (Reply.refused (refusal (known b) c))) ≡ []
+    go : (n : ℕ) → levels (if_accepted n (accepted_reply (known b) (envelope b) (λ n. rows n b) c) (Reply.refused (refusal (known b) c))) ≡ []
     go zero = ap levels e
     go (suc n) = refl
 
-rows-handed : (b : Bank) (n : ℕ) → levels (reply b (Call.process (n * stride_of (size b)))) ≡ rows n b
+process_levels-rows : (b : Bank) (n : ℕ) → levels (reply b (Call.process (n * stride_of (size b)))) ≡ rows n b
 unfolding reply levels
-rows-handed b n = rw ((whole (known b) n).0, (whole (known b) n).1)
+process_levels-rows b n = rw ((whole (known b) n).0, (whole (known b) n).1)
 
-pub handed-rows : (b : Bank) (e : Event) → handed b (deed (known b) e) ≡ rows (frames_of e) b
-unfolding handed deed frames_of
-handed-rows b (Event.Open n t p) = refl
-handed-rows b (Event.SetParams v p) = none-handed b (Call.set_params v p) refl
-handed-rows b (Event.SetAllParams p) = none-handed b (Call.set_all_params p) refl
-handed-rows b (Event.SetTiming t) = none-handed b (Call.set_timing t) refl
-handed-rows b (Event.Trigger v x) = none-handed b (Call.trigger v x) refl
-handed-rows b (Event.Release v) = none-handed b (Call.release v) refl
-handed-rows b (Event.Reset v) = none-handed b (Call.reset v) refl
-handed-rows b (Event.Join v from) = none-handed b (Call.join v from) refl
-handed-rows b (Event.Frames n) = rows-handed b n
+pub action_levels-rows : (b : Bank) (e : Event) → action_levels b (action (known b) e) ≡ rows (frames_of e) b
+unfolding action_levels action frames_of
+action_levels-rows b (Event.Open n t p) = refl
+action_levels-rows b (Event.SetParams v p) = no_levels b (Call.set_params v p) refl
+action_levels-rows b (Event.SetAllParams p) = no_levels b (Call.set_all_params p) refl
+action_levels-rows b (Event.SetTiming t) = no_levels b (Call.set_timing t) refl
+action_levels-rows b (Event.Trigger v x) = no_levels b (Call.trigger v x) refl
+action_levels-rows b (Event.Release v) = no_levels b (Call.release v) refl
+action_levels-rows b (Event.Reset v) = no_levels b (Call.reset v) refl
+action_levels-rows b (Event.Join v from) = no_levels b (Call.join v from) refl
+action_levels-rows b (Event.Frames n) = process_levels-rows b n
 
 -- ---- what is known
 
-abbrev pub is_open : Deed → Bool
+abbrev pub is_open : Action → Bool
 is_open (opens o) = true
 is_open (calls c) = false
 
-pub open_deed : (k : Known) (e : Event) → is_open (deed k e) ≡ Records.opens e
-unfolding deed
-open_deed k (Event.Open n t p) = refl
-open_deed k (Event.SetParams v p) = refl
-open_deed k (Event.SetAllParams p) = refl
-open_deed k (Event.SetTiming t) = refl
-open_deed k (Event.Trigger v x) = refl
-open_deed k (Event.Release v) = refl
-open_deed k (Event.Reset v) = refl
-open_deed k (Event.Join v from) = refl
-open_deed k (Event.Frames n) = refl
+pub open_action : (k : Known) (e : Event) → is_open (action k e) ≡ Records.opens e
+unfolding action
+open_action k (Event.Open n t p) = refl
+open_action k (Event.SetParams v p) = refl
+open_action k (Event.SetAllParams p) = refl
+open_action k (Event.SetTiming t) = refl
+open_action k (Event.Trigger v x) = refl
+open_action k (Event.Release v) = refl
+open_action k (Event.Reset v) = refl
+open_action k (Event.Join v from) = refl
+open_action k (Event.Frames n) = refl
 
 open_quiet : (e : Event) → Records.opens e ≡ true → frames_of e ≡ 0
 unfolding frames_of
@@ -95,12 +95,12 @@ open_quiet (Event.Reset v) q = refl
 open_quiet (Event.Join v from) q = refl
 open_quiet (Event.Frames n) q = absurd (differ (sym q))
 
-same_count : (k : Known) (d : Deed) → is_open d ≡ false → (known_after k d).voices ≡ k.voices
+same_count : (k : Known) (d : Action) → is_open d ≡ false → (known_after k d).voices ≡ k.voices
 unfolding known_after
 same_count k (opens o) q = absurd (differ q)
 same_count k (calls c) q = refl
 
-pub known-after : (b : Bank) (d : Deed) → own_refusal (known b) d ≡ 0 → known (after b d) ≡ known_after (known b) d
+pub known-after : (b : Bank) (d : Action) → own_refusal (known b) d ≡ 0 → known (after b d) ≡ known_after (known b) d
 unfolding own_refusal known_after after new opened answer
 known-after b (opens o) z = rw z (ap {B = Known} (λ (n : ℕ). record { voices = n }) (length-replicate o.voices (Planning.new o.params)))
 known-after b (calls c) z = rw z (kept b c z).knows
@@ -111,15 +111,15 @@ known-after b (calls c) z = rw z (kept b c z).knows
 abbrev pub far : ℕ → Bank → ℕ → Checked
 far at b asked = record { refusal = 0; at = at; known = known b; frames = asked }
 
-module _ (room : ℕ) (b : Bank) (l : List ℕ) (at asked : ℕ) (e : Event) (next : ℕ) (is : Format.read l at ≡ Reading.Record e next)
+module _ (room : ℕ) (b : Bank) (l : List ℕ) (at asked : ℕ) (e : Event) (next : ℕ) (is : Format.read l at ≡ Parsed.Record e next)
     (first : at ≡ 0 → asked ≡ 0) (A : Accepted room (far at b asked) e next) where
   abbrev b' : Bank
-  b' = after b (deed (known b) e)
+  b' = after b (action (known b) e)
 
   -- The check is where the bank is.
   pub passed-far : passed (far at b asked) e next ≡ far next b' (asked + frames_of e)
   passed-far =
-      ap {B = Checked} (λ (k : Known). record { refusal = 0; at = next; known = k; frames = asked + frames_of e }) (sym (known-after b (deed (known b) e) A.own))
+      ap {B = Checked} (λ (k : Known). record { refusal = 0; at = next; known = k; frames = asked + frames_of e }) (sym (known-after b (action (known b) e) A.own))
 
   -- The levels so far, counted by the bank before the record and after it: the one that opens it is the first.
   pub levels-more : (asked + frames_of e) * stride_of (size b') ≡ asked * stride_of (size b) + frames_of e * stride_of (size b)
@@ -134,8 +134,8 @@ module _ (room : ℕ) (b : Bank) (l : List ℕ) (at asked : ℕ) (e : Event) (ne
           ∙ sym (omega (arith, ap (λ (n : ℕ). n * stride_of (size b)) a, ap (λ (n : ℕ). n * stride_of (size b)) f, zero-mul (stride_of (size b))))
       go false h =
           let n : size b' ≡ size b =
-          ap (λ (k : Known). k.voices) (known-after b (deed (known b) e) A.own)
-          ∙ same_count (known b) (deed (known b) e) (open_deed (known b) e ∙ read_first l at e next is ∙ h)
+          ap (λ (k : Known). k.voices) (known-after b (action (known b) e) A.own)
+          ∙ same_count (known b) (action (known b) e) (open_action (known b) e ∙ read_first l at e next is ∙ h)
           in
           ap (λ (v : ℕ). (asked + frames_of e) * stride_of v) n ∙ add-mul asked (frames_of e) (stride_of (size b))
 
@@ -143,11 +143,11 @@ module _ (room : ℕ) (b : Bank) (l : List ℕ) (at asked : ℕ) (e : Event) (ne
 
 module _ (b : Bank) (out : List ℕ) where
   -- An event that asks for no frames writes nothing.
-  pub quiet_levels : (e : Event) → frames_of e ≡ 0 → out ≡ put (bytes (handed b (deed (known b) e))) out
-  quiet_levels e z = ap (λ (xs : List Float). put (bytes xs) out) (sym (handed-rows b e ∙ ap (λ (n : ℕ). rows n b) z))
+  pub quiet_levels : (e : Event) → frames_of e ≡ 0 → out ≡ put (bytes (action_levels b (action (known b) e))) out
+  quiet_levels e z = ap (λ (xs : List Float). put (bytes xs) out) (sym (action_levels-rows b e ∙ ap (λ (n : ℕ). rows n b) z))
 
-  pub quiet_count : (e : Event) → frames_of e ≡ 0 → 0 ≡ length (bytes (handed b (deed (known b) e)))
-  quiet_count e z = ap (λ (xs : List Float). length (bytes xs)) (sym (handed-rows b e ∙ ap (λ (n : ℕ). rows n b) z))
+  pub quiet_count : (e : Event) → frames_of e ≡ 0 → 0 ≡ length (bytes (action_levels b (action (known b) e)))
+  quiet_count e z = ap (λ (xs : List Float). length (bytes xs)) (sym (action_levels-rows b e ∙ ap (λ (n : ℕ). rows n b) z))
 
   -- n frames, for which there is room.
   pub frames-drawn : (n : ℕ) (b' : Bank) (out' : List ℕ) → n * stride_of (size b) ≤ length out / 4 → b' ≡ after_bytes b n (length out) → out' ≡ written_bytes b n out
@@ -163,8 +163,8 @@ bytes_drawn b n =
     let k : n * (4 * stride_of (size b)) ≡ 4 * (n * stride_of (size b)) = omega arith in
     k ∙ sym (length-bytes (rows n b) ∙ ap (λ (m : ℕ). 4 * m) (length-rows n b))
 
-pub frames_after : (b : Bank) (n : ℕ) → frames n b ≡ after b (deed (known b) (Event.Frames n))
-unfolding after deed
+pub frames_after : (b : Bank) (n : ℕ) → frames n b ≡ after b (action (known b) (Event.Frames n))
+unfolding after action
 frames_after b n = sym (block-frames b (size b) n refl)
 
 -- A row has at most 64 lanes.

@@ -24,13 +24,13 @@ use Rattle.settings.specs.Settings.{amp}
 use Rattle.lane.specs.Planning as Planning
 use Rattle.events.specs.declared.Event.{Event}
 use Rattle.events.specs.Format as Format
-use Rattle.events.specs.Format.{Reading}
+use Rattle.events.specs.Format.{Parsed}
 use Rattle.events.proofs.Records.{read_next}
-use Rattle.checking.specs.Deeds.{deed, frames_of}
-use Rattle.checking.specs.Checks.{Checked, start, judged, met, checked_from, checked}
+use Rattle.checking.specs.Actions.{action, frames_of}
+use Rattle.checking.specs.Checks.{Checked, start, judged, after_record, checked_from, checked}
 use Rattle.checking.proofs.Passing.{one_more, some, refused_none, still, Accepted, judged-accepted}
-use Rattle.player.specs.Playing.{if_record, events_from, unopened, after, handed, heard, level_bytes, put}
-use Rattle.player.proofs.Doing.{far, handed-rows, passed-far, levels-more}
+use Rattle.player.specs.Playing.{if_record, events_from, unopened, after, action_levels, rendered, level_bytes, put}
+use Rattle.player.proofs.Doing.{far, action_levels-rows, passed-far, levels-more}
 
 pub record Played (l out₀ out : List ℕ) (b : Bank) (at to : ℕ) : Type 0 where
   -- As many records as may be left.
@@ -45,7 +45,7 @@ pub record Played (l out₀ out : List ℕ) (b : Bank) (at to : ℕ) : Type 0 wh
   pub place : to ≡ 4 * (asked * stride_of (size b))
   pub there : to ≤ length out
   pub long : length out ≡ length out₀
-  pub head : take to out ++ bytes (heard b (events_from records l at)) ≡ level_bytes l
+  pub head : take to out ++ bytes (rendered b (events_from records l at)) ≡ level_bytes l
   pub tail : drop to out ≡ drop to out₀
 
 -- ---- the start
@@ -74,18 +74,18 @@ begun l out b e z =
       place = omega arith;
       there = omega arith;
       long = refl;
-      head = ap (λ (b : Bank). bytes (heard b (events_from (length l) l 0))) e;
+      head = ap (λ (b : Bank). bytes (rendered b (events_from (length l) l 0))) e;
       tail = refl;
     }
 
 -- ---- a record
 
-pub events-more : (n : ℕ) (l : List ℕ) (at : ℕ) (e : Event) (next : ℕ) → 0 < n → Format.read l at ≡ Reading.Record e next
+pub events-more : (n : ℕ) (l : List ℕ) (at : ℕ) (e : Event) (next : ℕ) → 0 < n → Format.read l at ≡ Parsed.Record e next
     → events_from n l at ≡ e ∷ events_from (n - 1) l next
 events-more zero l at e next h is = absurd (omega arith)
 events-more (suc n) l at e next h is =
     let k : n ≡ suc n - 1 = omega arith in
-    ap (λ (r : Reading). if_record r (λ e next. e ∷ events_from n l next)) is ∙ ap (λ (n : ℕ). e ∷ events_from n l next) k
+    ap (λ (r : Parsed). if_record r (λ e next. e ∷ events_from n l next)) is ∙ ap (λ (n : ℕ). e ∷ events_from n l next) k
 
 -- Bytes are put into an output from byte `to` on: what is before them is kept, and what is past them.
 module _ (to : ℕ) (out bs : List ℕ) (h : to ≤ length out) where
@@ -114,7 +114,7 @@ module _ (to : ℕ) (out bs : List ℕ) (h : to ≤ length out) where
       ∙ omega (arith, k, seam, length-drop (length bs) (drop to out), length-drop to out)
 
 module _ (l out₀ out : List ℕ) (b : Bank) (at to : ℕ) (P : Played l out₀ out b at to) (e : Event) (next : ℕ)
-    (is : Format.read l at ≡ Reading.Record e next) where
+    (is : Format.read l at ≡ Parsed.Record e next) where
   more : 0 < P.records
   more = omega (arith, read_next l at e next is, P.enough)
 
@@ -125,23 +125,23 @@ module _ (l out₀ out : List ℕ) (b : Bank) (at to : ℕ) (P : Played l out₀
   c = far at b P.asked
 
   judged_on : (checked_from (P.records - 1) l room (judged room c e next)).refusal ≡ 0
-  unfolding met
+  unfolding after_record
   judged_on =
       let h = read_next l at e next is in
-      sym (ap (λ (x : Checked). x.refusal) (one_more l room c P.records more refl (omega (arith, h)) ∙ ap (λ (r : Reading). checked_from (P.records - 1) l room (met room c r)) is))
+      sym (ap (λ (x : Checked). x.refusal) (one_more l room c P.records more refl (omega (arith, h)) ∙ ap (λ (r : Parsed). checked_from (P.records - 1) l room (after_record room c r)) is))
       ∙ P.passes
 
   accepted : Accepted room c e next
   accepted = judged-accepted room c e next (still (P.records - 1) l room (judged room c e next) judged_on)
 
   abbrev bs : List ℕ
-  bs = bytes (handed b (deed (known b) e))
+  bs = bytes (action_levels b (action (known b) e))
 
   abbrev b₁ : Bank
-  b₁ = after b (deed (known b) e)
+  b₁ = after b (action (known b) e)
 
   many : length bs ≡ 4 * (frames_of e * stride_of (size b))
-  many = length-bytes (handed b (deed (known b) e)) ∙ ap (λ (xs : List Float). 4 * length xs) (handed-rows b e) ∙ ap (λ (n : ℕ). 4 * n) (length-rows (frames_of e) b)
+  many = length-bytes (action_levels b (action (known b) e)) ∙ ap (λ (xs : List Float). 4 * length xs) (action_levels-rows b e) ∙ ap (λ (n : ℕ). 4 * n) (length-rows (frames_of e) b)
 
   counted : (P.asked + frames_of e) * stride_of (size b₁) ≡ P.asked * stride_of (size b) + frames_of e * stride_of (size b)
   counted = levels-more room b l at P.asked e next is P.first accepted
@@ -176,11 +176,11 @@ module _ (l out₀ out : List ℕ) (b : Bank) (at to : ℕ) (P : Played l out₀
       es : List Event
       es = events_from (P.records - 1) l next
 
-      head-is : take (to + length bs) new-out ++ bytes (heard b₁ es) ≡ level_bytes l
+      head-is : take (to + length bs) new-out ++ bytes (rendered b₁ es) ≡ level_bytes l
       head-is =
-          ap (λ (l : List ℕ). l ++ bytes (heard b₁ es)) (put-head to out bs P.there)
-          ∙ append_assoc (take to out) bs (bytes (heard b₁ es))
-          ∙ ap (λ (l : List ℕ). take to out ++ l) (sym (bytes-append (handed b (deed (known b) e)) (heard b₁ es)) ∙ sym (ap (λ (es : List Event). bytes (heard b es)) (events-more P.records l at e next more is)))
+          ap (λ (l : List ℕ). l ++ bytes (rendered b₁ es)) (put-head to out bs P.there)
+          ∙ append_assoc (take to out) bs (bytes (rendered b₁ es))
+          ∙ ap (λ (l : List ℕ). take to out ++ l) (sym (bytes-append (action_levels b (action (known b) e)) (rendered b₁ es)) ∙ sym (ap (λ (es : List Event). bytes (rendered b es)) (events-more P.records l at e next more is)))
           ∙ P.head
 
       tail-is : drop (to + length bs) new-out ≡ drop (to + length bs) out₀
@@ -210,14 +210,14 @@ module _ (l out₀ out : List ℕ) (b : Bank) (at to : ℕ) (P : Played l out₀
 -- ---- the end
 
 -- Where no record can be read, none is left.
-no_record : (l : List ℕ) (at n k : ℕ) → Format.read l at ≡ Reading.Refused k → events_from n l at ≡ []
+no_record : (l : List ℕ) (at n k : ℕ) → Format.read l at ≡ Parsed.Refused k → events_from n l at ≡ []
 no_record l at zero k is = refl
-no_record l at (suc n) k is = ap (λ (r : Reading). if_record r (λ e next. e ∷ events_from n l next)) is
+no_record l at (suc n) k is = ap (λ (r : Parsed). if_record r (λ e next. e ∷ events_from n l next)) is
 
-pub finished : (l out₀ out : List ℕ) (b : Bank) (at to : ℕ) → Played l out₀ out b at to → (k : ℕ) → Format.read l at ≡ Reading.Refused k
+pub finished : (l out₀ out : List ℕ) (b : Bank) (at to : ℕ) → Played l out₀ out b at to → (k : ℕ) → Format.read l at ≡ Parsed.Refused k
     → out ≡ put (level_bytes l) out₀
 finished l out₀ out b at to P k is =
     let e = no_record l at P.records k is in
-    let h : take to out ≡ level_bytes l = sym (append-nil (take to out)) ∙ ap (λ (es : List Event). take to out ++ bytes (heard b es)) (sym e) ∙ P.head in
+    let h : take to out ≡ level_bytes l = sym (append-nil (take to out)) ∙ ap (λ (es : List Event). take to out ++ bytes (rendered b es)) (sym e) ∙ P.head in
     let n : length (level_bytes l) ≡ to = ap length (sym h) ∙ length-take-le to out P.there in
     sym (take-append-drop to out) ∙ ap₂ (λ (x y : List ℕ). x ++ y) h (P.tail ∙ ap (λ (i : ℕ). drop i out₀) (sym n))

@@ -10,15 +10,15 @@ use Rattle.bank.specs.Replies as Replies
 use Rattle.bank.specs.Replies.{Reply}
 use Rattle.events.specs.declared.Event.{Event}
 use Rattle.events.specs.Format as Format
-use Rattle.events.specs.Format.{Reading}
-use Rattle.checking.specs.Deeds.{Deed, opens, calls, deed}
+use Rattle.events.specs.Format.{Parsed}
+use Rattle.checking.specs.Actions.{Action, opens, calls, action}
 use Rattle.checking.specs.Checks as Checks
 
 -- ---- events
 
-abbrev pub if_record : Reading → (Event → ℕ → List Event) → List Event
-if_record (Reading.Record e next) f = f e next
-if_record (Reading.Refused n) f = []
+abbrev pub if_record : Parsed → (Event → ℕ → List Event) → List Event
+if_record (Parsed.Record e next) f = f e next
+if_record (Parsed.Refused n) f = []
 
 -- The events of the records from byte `at` on, n at most, up to a place where no record can be read: in an accepted list, its end.
 abbrev pub events_from : ℕ → List ℕ → ℕ → List Event
@@ -36,7 +36,7 @@ abbrev pub unopened : Bank
 unopened = (Banks.new (opening 0 amp (Clock.new Constants.zero))).bank
 
 -- The bank after an event, by the bank's own calls.
-unfoldable pub after : Bank → Deed → Bank
+unfoldable pub after : Bank → Action → Bank
 after b (opens o) = (Banks.new o).bank
 after b (calls c) = (Banks.answer b c).bank
 
@@ -52,20 +52,20 @@ levels (Reply.is_idle x) = []
 levels (Reply.count n) = []
 
 -- What an event hands out.
-unfoldable pub handed : Bank → Deed → List Float
-handed b (opens o) = []
-handed b (calls c) = levels (Replies.reply b c)
+unfoldable pub action_levels : Bank → Action → List Float
+action_levels b (opens o) = []
+action_levels b (calls c) = levels (Replies.reply b c)
 
 -- The levels of events that are played one after the other.
-abbrev pub heard : Bank → List Event → List Float
-heard b [] = []
-heard b (e ∷ es) = let d = deed (Banks.known b) e in handed b d ++ heard (after b d) es
+abbrev pub rendered : Bank → List Event → List Float
+rendered b [] = []
+rendered b (e ∷ es) = let d = action (Banks.known b) e in action_levels b d ++ rendered (after b d) es
 
 -- ---- bytes
 
 -- The bytes of a list's levels.
 abbrev pub level_bytes : List ℕ → List ℕ
-level_bytes l = bytes (heard unopened (events l))
+level_bytes l = bytes (rendered unopened (events l))
 
 -- An output into which bytes were put from its first on: what it held past them is kept.
 abbrev pub put : List ℕ → List ℕ → List ℕ

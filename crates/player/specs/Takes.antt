@@ -6,33 +6,33 @@ use Rattle.settings.specs.Settings.{amp}
 use Rattle.bank.specs.declared.known.Known.{Known}
 use Rattle.bank.specs.Calls.{Opening, opening, Call, known_of, learned}
 use Rattle.bank.specs.Replies.{Reply}
-use Rattle.histories.specs.Demand.{first_reading, dues}
+use Rattle.histories.specs.Demand.{fresh_histories, expected_replies}
 use Rattle.events.specs.declared.Event.{Event}
-use Rattle.checking.specs.Deeds.{Deed, opens, calls, deed}
+use Rattle.checking.specs.Actions.{Action, opens, calls, action}
 use Rattle.checking.specs.Checks.{start}
-use Rattle.player.specs.Playing.{unopened, levels, heard}
+use Rattle.player.specs.Playing.{unopened, levels, rendered}
 
 -- The fresh call of a list's first record, and the records after it.
-abbrev pub opened_by : Deed → Opening
+abbrev pub opened_by : Action → Opening
 opened_by (opens o) = o
 opened_by (calls c) = opening 0 amp (Clock.new Constants.zero)
 
 abbrev pub opening_of : List Event → Opening
 opening_of [] = opening 0 amp (Clock.new Constants.zero)
-opening_of (e ∷ es) = opened_by (deed start.known e)
+opening_of (e ∷ es) = opened_by (action start.known e)
 
 abbrev pub later_of : List Event → List Event
 later_of [] = []
 later_of (e ∷ es) = es
 
 -- Their calls, after what is known of the bank.
-abbrev pub if_call : Deed → (Call → List Call) → List Call
+abbrev pub if_call : Action → (Call → List Call) → List Call
 if_call (opens o) f = []
 if_call (calls c) f = f c
 
 abbrev pub calls_of : Known → List Event → List Call
 calls_of k [] = []
-calls_of k (e ∷ es) = if_call (deed k e) (λ c. c ∷ calls_of (learned k c) es)
+calls_of k (e ∷ es) = if_call (action k e) (λ c. c ∷ calls_of (learned k c) es)
 
 -- The levels of replies, one after the other.
 abbrev pub levels_of : List Reply → List Float
@@ -41,7 +41,7 @@ levels_of (r ∷ rs) = levels r ++ levels_of rs
 
 -- What is heard of an accepted list's events is what the envelopes of the voices' histories hand out: the levels that demand 3 says are due for
 -- its calls.
-abbrev pub Due : List Event → Type 0
-Due es =
+abbrev pub AsExpected : List Event → Type 0
+AsExpected es =
     let o = opening_of es in
-    heard unopened es ≡ levels_of (dues (first_reading o) (calls_of (known_of o) (later_of es)))
+    rendered unopened es ≡ levels_of (expected_replies (fresh_histories o) (calls_of (known_of o) (later_of es)))

@@ -6,7 +6,7 @@ ghost use Rattle.std.specs.Prelude.{◌≡◌, ◌*◌, ◌/◌, ◌≤◌, pos,
 ghost use Rattle.rows.specs.Strides as Strides;
 ghost use Rattle.bank.specs.Banks as Banks;
 ghost use Rattle.checking.specs.Checks as Checks;
-ghost use Rattle.checking.specs.Deeds as Deeds;
+ghost use Rattle.checking.specs.Actions as Actions;
 ghost use Rattle.player.specs.Playing as Playing;
 
 use bank::Bank;
@@ -27,12 +27,12 @@ fn draw(bank: &mut Bank, frames: u32, out: &mut [u8]) -> usize
 }
 
 // Applies an event to the bank: one arm a kind. Answers how many bytes were written.
-#[tactic(auto, using(crate::proofs::Doing::quiet_levels, crate::proofs::Doing::quiet_count), unfolding(crate::specs::Playing::after, checking::specs::Deeds::deed, checking::specs::Deeds::frames_of))]
+#[tactic(auto, using(crate::proofs::Doing::quiet_levels, crate::proofs::Doing::quiet_count), unfolding(crate::specs::Playing::after, checking::specs::Actions::action, checking::specs::Actions::frames_of))]
 fn apply(bank: &mut Bank, event: Event, out: &mut [u8]) -> usize
-    requires { Deeds.frames_of event * Strides.stride_of (Banks.size (Banks.bank_of bank.old.arrays)) ≤ length out.old / 4 }
-    ensures bank { Banks.bank_of bank.new.arrays ≡ Playing.after (Banks.bank_of bank.old.arrays) (Deeds.deed (Banks.known (Banks.bank_of bank.old.arrays)) event) }
-    ensures levels { out.new ≡ Playing.put (Banks.bytes (Playing.handed (Banks.bank_of bank.old.arrays) (Deeds.deed (Banks.known (Banks.bank_of bank.old.arrays)) event))) out.old }
-    ensures count { result ≡ length (Banks.bytes (Playing.handed (Banks.bank_of bank.old.arrays) (Deeds.deed (Banks.known (Banks.bank_of bank.old.arrays)) event))) }
+    requires { Actions.frames_of event * Strides.stride_of (Banks.size (Banks.bank_of bank.old.arrays)) ≤ length out.old / 4 }
+    ensures bank { Banks.bank_of bank.new.arrays ≡ Playing.after (Banks.bank_of bank.old.arrays) (Actions.action (Banks.known (Banks.bank_of bank.old.arrays)) event) }
+    ensures levels { out.new ≡ Playing.put (Banks.bytes (Playing.action_levels (Banks.bank_of bank.old.arrays) (Actions.action (Banks.known (Banks.bank_of bank.old.arrays)) event))) out.old }
+    ensures count { result ≡ length (Banks.bytes (Playing.action_levels (Banks.bank_of bank.old.arrays) (Actions.action (Banks.known (Banks.bank_of bank.old.arrays)) event))) }
 {
     // No call of an accepted list is refused.
     let _ = match event {

@@ -134,7 +134,7 @@ impl Call {
     pub(crate) fn make(&self, e: &mut Envelope) -> Result<(), Refusal> {
         match self.tag() {
             1 => {
-                *e = Envelope::blank();
+                *e = Envelope::fallback();
                 *e = Envelope::fresh(self.params(), self.timing())?;
             }
             2 => *e = e.with_params(self.params())?,

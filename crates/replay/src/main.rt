@@ -64,11 +64,11 @@ fn answer_note(
     call: &Call,
     levels: &mut Levels,
 ) -> io::Result<()> {
-    let held = &mut levels[..call.note_frames(MOST_FRAMES)];
-    let note = notes::played(*e, call.note_trigger(), held, call.params(), call.timing());
+    let block = &mut levels[..call.note_frames(MOST_FRAMES)];
+    let note = notes::played(*e, call.note_trigger(), block, call.params(), call.timing());
     *e = note.envelope;
     replies::write_reply(to, number_of(note.timing.and(note.params)), *e)?;
-    replies::write_levels(to, held)?;
+    replies::write_levels(to, block)?;
     replies::write_words(to, [numbers::f32_to_bits(note.level)])
 }
 
@@ -117,7 +117,7 @@ fn main(rt: HostRuntime) -> io::Result<()> {
     let amp = EnvelopeParams::AMP;
     let timing = Timing::new(0.0);
     let _ = bank.open(0, amp, timing);
-    let mut e = Envelope::blank();
+    let mut e = Envelope::fallback();
     for _ in 0..u64::MAX {
         if !read_whole(&mut rt.stdin(), &mut call.bytes)? {
             return Ok(());

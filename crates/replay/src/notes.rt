@@ -21,17 +21,17 @@ pub(crate) struct Note {
 pub(crate) fn played(
     envelope: Envelope,
     trigger: Trigger,
-    held: &mut [f32],
+    block: &mut [f32],
     params: EnvelopeParams,
     timing: Timing,
 ) -> Note
-    ensures held { held.new ≡ Notes.levels envelope trigger (length held.old) }
-    ensures note { Notes.seen result ≡ Notes.note envelope trigger (length held.old) params timing }
+    ensures block { block.new ≡ Notes.levels envelope trigger (length block.old) }
+    ensures note { Notes.seen result ≡ Notes.note envelope trigger (length block.old) params timing }
 {
     let mut e = envelope;
     e.reset();
     e.trigger(trigger);
-    e.process(held);
+    e.process(block);
     let params = e.set_params(params);
     let timing = e.set_timing(timing);
     let level = e.next_level();

@@ -18,7 +18,7 @@ pub(crate) fn high(x: u64) -> u32 {
 
 // What an answer tells of an envelope or a voice.
 #[derive(Clone, Copy)]
-pub(crate) struct Told {
+pub(crate) struct AllReadings {
     pub params: EnvelopeParams,
     pub stage: Stage,
     pub idle: bool,
@@ -37,7 +37,7 @@ pub(crate) fn write_words<const N: usize>(to: &mut impl Write, words: [u32; N]) 
 }
 
 // What is told after the number of a refusal, 22 words with it.
-pub(crate) fn write_told(to: &mut impl Write, refusal: u32, t: Told) -> io::Result<()> {
+pub(crate) fn write_answer(to: &mut impl Write, refusal: u32, t: AllReadings) -> io::Result<()> {
     let p = t.params;
     write_words(
         to,
@@ -69,10 +69,10 @@ pub(crate) fn write_told(to: &mut impl Write, refusal: u32, t: Told) -> io::Resu
 }
 
 // What is told of an envelope, which is lent to one reading after the other.
-fn readings(e: Envelope) -> Told
-    ensures { result ≡ Notes.told e }
+fn readings(e: Envelope) -> AllReadings
+    ensures { result ≡ Notes.readings e }
 {
-    Told {
+    AllReadings {
         params: e.params(),
         stage: e.stage(),
         idle: e.is_idle(),
@@ -84,7 +84,7 @@ fn readings(e: Envelope) -> Told
 
 // The answer to a call that left the envelope e.
 pub(crate) fn write_reply(to: &mut impl Write, refusal: u32, e: Envelope) -> io::Result<()> {
-    write_told(to, refusal, readings(e))
+    write_answer(to, refusal, readings(e))
 }
 
 // The bits of levels, up to 1024 at a time.

@@ -16,8 +16,8 @@ use Rattle.curve.proofs.Steps.{u_next}
 use Rattle.filled.specs.Filled.{Filled}
 use Rattle.filled.proofs.Filling.{split}
 use Rattle.memory.specs.Memory.{u_at, r_at, d_at}
-use Rattle.rows.specs.Rows.{moved_at, drawn_at, Drawn}
-use Rattle.rows.specs.Places.{Told}
+use Rattle.rows.specs.Rows.{u_after_rows, drawn_at, Drawn}
+use Rattle.rows.specs.Places.{ByLevels}
 use Rattle.rows.proofs.Lent.{part_before, part_at, rest-lent, rest_back}
 use Rattle.rows.proofs.RowsDrawn.{row_fits}
 
@@ -35,8 +35,8 @@ u_more m (suc n) u r d =
     ap (λ (x : Float). u_after n x r d) (u_next m u r d) ∙ u_more (m + 1) n u r d ∙ ap (λ (k : ℕ). u_after k u r d) e
 
 -- The lanes of up to four groups, moved on by m rows.
-module _ (groups m : ℕ) (few : groups ≤ 4) (f f₁ : List Float) (M : Filled nan (moved_at m f) 0 (16 * groups) f f₁) where
-  moved_more : (n i : ℕ) → i < 16 * groups → moved_at n f₁ i ≡ moved_at (m + n) f i
+module _ (groups m : ℕ) (few : groups ≤ 4) (f f₁ : List Float) (M : Filled nan (u_after_rows m f) 0 (16 * groups) f f₁) where
+  moved_more : (n i : ℕ) → i < 16 * groups → u_after_rows n f₁ i ≡ u_after_rows (m + n) f i
   moved_more n i h =
       let eu = M.inside i (omega arith) h in
       let er = M.after (i + 68) (omega arith) in
@@ -53,7 +53,7 @@ module _ (groups m : ℕ) (few : groups ≤ 4) (f f₁ : List Float) (M : Filled
 
 module _ {A : Type 0} (z : A) (wide : ℕ) (cell : (ℕ → Float) → ℕ → A) where
   -- n rows behind m: from `at` on the output was lent, and came back with them.
-  module _ (told : Told wide cell) (groups m n at : ℕ) (few : groups ≤ 4) (f f₁ f₂ : List Float) (o₀ o p' : List A)
+  module _ (by_levels : ByLevels wide cell) (groups m n at : ℕ) (few : groups ≤ 4) (f f₁ f₂ : List Float) (o₀ o p' : List A)
       (at-is : at ≡ m * (wide * groups)) (fits : at ≤ length o)
       (D : Drawn z wide cell groups m f o₀ o f₁) (E : Drawn z wide cell groups n f₁ (drop at o) p' f₂) where
     rows_on : Drawn z wide cell groups (m + n) f o₀ (take at o ++ p') f₂
@@ -82,7 +82,7 @@ module _ {A : Type 0} (z : A) (wide : ℕ) (cell : (ℕ → Float) → ℕ → A
             (subst (λ (j : ℕ). get_or (take at o ++ p') j z ≡ cell (drawn_at (m + (k - m)) f) c) w
             (part_at z at o p' fits ((k - m) * (wide * groups) + c)
             ∙ E.levels (k - m) c (omega arith) q
-            ∙ told groups (drawn_at (k - m) f₁) (drawn_at (m + (k - m)) f) (drawn-more groups m few f f₁ D.moved (k - m)) c q))
+            ∙ by_levels groups (drawn_at (k - m) f₁) (drawn_at (m + (k - m)) f) (drawn-more groups m few f f₁ D.moved (k - m)) c q))
 
         past-at : (j : ℕ) → at + n * (wide * groups) ≤ j → get_or (take at o ++ p') j z ≡ get_or o₀ j z
         past-at j h =
@@ -92,10 +92,10 @@ module _ {A : Type 0} (z : A) (wide : ℕ) (cell : (ℕ → Float) → ℕ → A
             ∙ D.past j (omega arith)
 
   -- The same of the part as it is lent, and of the whole when it is back.
-  pub drawn_on : Told wide cell → (groups m n at : ℕ) → groups ≤ 4 → (f f₁ f₂ : List Float) (o₀ o p' : List A) → at ≡ m * (wide * groups)
+  pub drawn_on : ByLevels wide cell → (groups m n at : ℕ) → groups ≤ 4 → (f f₁ f₂ : List Float) (o₀ o p' : List A) → at ≡ m * (wide * groups)
       → at ≤ length o → Drawn z wide cell groups m f o₀ o f₁ → Drawn z wide cell groups n f₁ (mid_of at (length o - at) o) p' f₂
       → Drawn z wide cell groups (m + n) f o₀ (put_mid at (length o - at) o p') f₂
-  drawn_on told groups m n at few f f₁ f₂ o₀ o p' at-is fits D E =
+  drawn_on by_levels groups m n at few f f₁ f₂ o₀ o p' at-is fits D E =
       subst (λ (l : List A). Drawn z wide cell groups (m + n) f o₀ l f₂) (sym (rest_back at o p'))
-      (rows_on told groups m n at few f f₁ f₂ o₀ o p' at-is fits D
+      (rows_on by_levels groups m n at few f f₁ f₂ o₀ o p' at-is fits D
       (subst (λ (l : List A). Drawn z wide cell groups n f₁ l p' f₂) (rest-lent at o) E))

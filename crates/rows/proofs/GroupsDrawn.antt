@@ -10,14 +10,14 @@ use lib.Ieee.{Float, nan}
 use lib.ListN.{get_or}
 use Rattle.filled.specs.Filled.{Filled}
 use Rattle.filled.proofs.Filling.{split, filled_on}
-use Rattle.rows.specs.Rows.{moved_at, drawn_at, Still, Laid, GroupDrawn}
-use Rattle.rows.specs.Places.{Told, Shifts}
+use Rattle.rows.specs.Rows.{u_after_rows, drawn_at, Still, Laid, GroupDrawn}
+use Rattle.rows.specs.Places.{ByLevels, Shifts}
 use Rattle.rows.proofs.LanesMoved.{Moved, put_back, still_filled}
 
 -- The places of one group depend on its levels alone.
-pub told-one : {A : Type 0} (wide : ℕ) (cell : (ℕ → Float) → ℕ → A) → Told wide cell → (f g : ℕ → Float) → ((i : ℕ) → i < 16 → f i ≡ g i)
+pub one_by_levels : {A : Type 0} (wide : ℕ) (cell : (ℕ → Float) → ℕ → A) → ByLevels wide cell → (f g : ℕ → Float) → ((i : ℕ) → i < 16 → f i ≡ g i)
     → (c : ℕ) → c < wide → cell f c ≡ cell g c
-told-one wide cell told f g e c h = told 1 f g (λ i p. e i (omega arith)) c (omega arith)
+one_by_levels wide cell by_levels f g e c h = by_levels 1 f g (λ i p. e i (omega arith)) c (omega arith)
 
 module _ {A : Type 0} (z : A) (wide : ℕ) (cell : (ℕ → Float) → ℕ → A) where
   -- A group, whose u after the rows was put back; and one that stays.
@@ -34,10 +34,10 @@ module _ {A : Type 0} (z : A) (wide : ℕ) (cell : (ℕ → Float) → ℕ → A
   pub record GroupsDrawn (stride q rows : ℕ) (f : List Float) (o₀ o : List A) (f' : List Float) : Type 0 where
     pub levels : (k c : ℕ) → k < rows → c < wide * q → get_or o (k * stride + c) z ≡ cell (drawn_at k f) c
     pub past : (j : ℕ) → rows * stride ≤ j → get_or o j z ≡ get_or o₀ j z
-    pub moved : Filled nan (moved_at rows f) 0 (16 * q) f f'
+    pub moved : Filled nan (u_after_rows rows f) 0 (16 * q) f f'
 
   -- One more: its lanes were not moved by the groups before it.
-  module _ (told : Told wide cell) (shifts : Shifts wide cell) (stride q rows : ℕ) (f f₁ : List Float) (o₀ o o' : List A) (f' : List Float)
+  module _ (by_levels : ByLevels wide cell) (shifts : Shifts wide cell) (stride q rows : ℕ) (f f₁ : List Float) (o₀ o o' : List A) (f' : List Float)
       (G : GroupsDrawn stride q rows f o₀ o f₁) (W : GroupDrawn z wide cell stride (wide * q) (16 * q) rows f₁ o o' f') where
     later : (j : ℕ) → 16 * q ≤ j → get_or f₁ j nan ≡ get_or f j nan
     later j h = G.moved.after j h
@@ -51,7 +51,7 @@ module _ {A : Type 0} (z : A) (wide : ℕ) (cell : (ℕ → Float) → ℕ → A
         let eb = later (i + 272) (omega arith) in
         cc
 
-    later-moved : (i : ℕ) → 16 * q ≤ i → moved_at rows f₁ i ≡ moved_at rows f i
+    later-moved : (i : ℕ) → 16 * q ≤ i → u_after_rows rows f₁ i ≡ u_after_rows rows f i
     later-moved i h =
         let eu = later i h in
         let er = later (i + 68) (omega arith) in
@@ -64,8 +64,8 @@ module _ {A : Type 0} (z : A) (wide : ℕ) (cell : (ℕ → Float) → ℕ → A
           levels = λ k c l p. level-at k c l p (split c (wide * q));
           past = λ j p. W.laid.past j p ∙ G.past j p;
           moved =
-              subst (λ (e : ℕ). Filled nan (moved_at rows f) 0 e f f') (omega arith)
-              (filled_on nan (moved_at rows f) 0 (moved_at rows f₁) (16 * q) (16 * q + 16) f f₁ f' (omega arith) (omega arith) (λ j p h. later-moved j p)
+              subst (λ (e : ℕ). Filled nan (u_after_rows rows f) 0 e f f') (omega arith)
+              (filled_on nan (u_after_rows rows f) 0 (u_after_rows rows f₁) (16 * q) (16 * q + 16) f f₁ f' (omega arith) (omega arith) (λ j p h. later-moved j p)
               G.moved W.moved);
         }
       where
@@ -77,5 +77,5 @@ module _ {A : Type 0} (z : A) (wide : ℕ) (cell : (ℕ → Float) → ℕ → A
             let m : c - wide * q < wide = omega (arith, wider) in
             subst (λ (c : ℕ). get_or o' (k * stride + c) z ≡ cell (drawn_at k f) c) e
             (W.laid.levels k (c - wide * q) l m
-            ∙ told-one wide cell told (λ i. drawn_at k f₁ (16 * q + i)) (λ i. drawn_at k f (16 * q + i)) (λ i n. later-level k (16 * q + i) (omega arith)) (c - wide * q) m
+            ∙ one_by_levels wide cell by_levels (λ i. drawn_at k f₁ (16 * q + i)) (λ i. drawn_at k f (16 * q + i)) (λ i n. later-level k (16 * q + i) (omega arith)) (c - wide * q) m
             ∙ sym (shifts (drawn_at k f) q (c - wide * q)))

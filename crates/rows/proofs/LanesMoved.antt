@@ -19,11 +19,11 @@ use Rattle.curve.specs.Segments.{level_from, next_u, u_after}
 use Rattle.curve.proofs.Steps.{u_next}
 use Rattle.filled.specs.Filled.{Filled}
 use Rattle.memory.specs.Memory.{u_at, r_at, d_at, scale_at, base_at}
-use Rattle.rows.specs.Rows.{moved_at, drawn_at, Still, Loaded, Levels, steps_at}
+use Rattle.rows.specs.Rows.{u_after_rows, drawn_at, Still, Loaded, Levels, steps_at}
 
 -- u is the lanes' after k rows.
 abbrev pub Moved : ℕ → ℕ → List Float → List Float → Type 0
-Moved k g f u = (i : ℕ) → i < 16 → get_or u i nan ≡ moved_at k f (g + i)
+Moved k g f u = (i : ℕ) → i < 16 → get_or u i nan ≡ u_after_rows k f (g + i)
 
 module _ (g : ℕ) (f : List Float) where
   -- A column from its lane g on.
@@ -54,13 +54,13 @@ module _ (g : ℕ) (f : List Float) where
         cc
 
     -- Put back, they are moved on in the array.
-    pub put_back : (f' : List Float) → Filled nan (λ j. get_or u (j - g) nan) g (g + 16) f f' → Filled nan (moved_at k f) g (g + 16) f f'
+    pub put_back : (f' : List Float) → Filled nan (λ j. get_or u (j - g) nan) g (g + 16) f f' → Filled nan (u_after_rows k f) g (g + 16) f f'
     put_back f' P =
         record {
           same = P.same;
           inside = λ j p q.
               let e : g + (j - g) ≡ j = omega arith in
-              P.inside j p q ∙ U (j - g) (omega arith) ∙ ap (moved_at k f) e;
+              P.inside j p q ∙ U (j - g) (omega arith) ∙ ap (u_after_rows k f) e;
           before = P.before;
           after = P.after;
         }
@@ -72,7 +72,7 @@ stays zero u r d e = refl
 stays (suc k) u r d e = ap (λ (x : Float). u_after k x r d) e ∙ stays k u r d e
 
 module _ (g : ℕ) (f : List Float) (S : Still g f) where
-  still-moved : (k i : ℕ) → i < 16 → moved_at k f (g + i) ≡ u_at f (g + i)
+  still-moved : (k i : ℕ) → i < 16 → u_after_rows k f (g + i) ≡ u_at f (g + i)
   still-moved k i h = stays k (u_at f (g + i)) (r_at f (g + i)) (d_at f (g + i)) (S i h)
 
   -- Every row is the first, and the array is as it was.
@@ -80,13 +80,13 @@ module _ (g : ℕ) (f : List Float) (S : Still g f) where
   still-level k i h =
       ap (λ (u : Float). level_from u (scale_at f (g + i)) (base_at f (g + i))) (sym (still-moved k i h))
 
-  pub still_filled : (k : ℕ) → Filled nan (moved_at k f) g (g + 16) f f
+  pub still_filled : (k : ℕ) → Filled nan (u_after_rows k f) g (g + 16) f f
   still_filled k =
       record {
         same = refl;
         inside = λ j p q.
             let e : g + (j - g) ≡ j = omega arith in
-            subst (λ (j : ℕ). get_or f j nan ≡ moved_at k f j) e (sym (still-moved k (j - g) (omega arith)));
+            subst (λ (j : ℕ). get_or f j nan ≡ u_after_rows k f j) e (sym (still-moved k (j - g) (omega arith)));
         before = λ j p. refl;
         after = λ j p. refl;
       }

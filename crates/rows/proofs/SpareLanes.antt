@@ -15,7 +15,7 @@ use Rattle.filled.proofs.Filling.{split}
 use Rattle.memory.specs.Memory.{lanes, columns_at}
 use Rattle.memory.specs.Spaced.{puts}
 use Rattle.memory.proofs.Spaced.{length-puts, puts-kept, spaced-stored, spaced-kept}
-use Rattle.rows.specs.Rows.{moved_at, drawn_at, Whole, silence, Silent, Cleared}
+use Rattle.rows.specs.Rows.{u_after_rows, drawn_at, Whole, silence, Silent, Cleared}
 
 -- ---- cleared lanes
 
@@ -51,7 +51,7 @@ module _ (f : List Float) (w : ℕ) (S : Silent f w) where
   number : (j : ℕ) → get_or (columns_at f w) j nan ≡ get_or silence j nan
   number j = ap (λ (l : List Float). get_or l j nan) S
 
-  pub silent-moved : (k : ℕ) → moved_at k f w ≡ Constants.zero
+  pub silent-moved : (k : ℕ) → u_after_rows k f w ≡ Constants.zero
   silent-moved k =
       let eu = number 0 in
       let er = number 1 in
@@ -68,7 +68,7 @@ module _ (f : List Float) (w : ℕ) (S : Silent f w) where
       cc
 
   -- Rows of up to four groups leave it silent.
-  pub silent-drawn : (groups rows : ℕ) (f' : List Float) → groups ≤ 4 → w < 16 * groups → Filled nan (moved_at rows f) 0 (16 * groups) f f' → Silent f' w
+  pub silent-drawn : (groups rows : ℕ) (f' : List Float) → groups ≤ 4 → w < 16 * groups → Filled nan (u_after_rows rows f) 0 (16 * groups) f f' → Silent f' w
   silent-drawn groups rows f' few h M =
       let u : get_or f' w nan ≡ Constants.zero = M.inside w (omega arith) h ∙ silent-moved rows in
       let r : get_or f' (w + 68) nan ≡ one = M.after (w + 68) (omega arith) ∙ number 1 in

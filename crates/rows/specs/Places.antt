@@ -8,15 +8,15 @@ use Rattle.rows.specs.Rows.{float_cell, byte_cell}
 
 module _ {A : Type 0} (wide : ℕ) (cell : (ℕ → Float) → ℕ → A) where
   -- The places of n groups depend on the levels of those groups alone.
-  abbrev pub Told : Type 0
-  Told = (n : ℕ) (f g : ℕ → Float) → ((i : ℕ) → i < 16 * n → f i ≡ g i) → (c : ℕ) → c < wide * n → cell f c ≡ cell g c
+  abbrev pub ByLevels : Type 0
+  ByLevels = (n : ℕ) (f g : ℕ → Float) → ((i : ℕ) → i < 16 * n → f i ≡ g i) → (c : ℕ) → c < wide * n → cell f c ≡ cell g c
 
   -- A place of a later group depends on that group's lanes as the first group's place on its own.
   abbrev pub Shifts : Type 0
   Shifts = (f : ℕ → Float) (q c : ℕ) → cell f (wide * q + c) ≡ cell (λ i. f (16 * q + i)) c
 
-pub float_told : Told 16 float_cell
-float_told n f g e c h = e c h
+pub float_by_levels : ByLevels 16 float_cell
+float_by_levels n f g e c h = e c h
 
 pub float_shifts : Shifts 16 float_cell
 float_shifts f q c = refl
@@ -25,8 +25,8 @@ float_shifts f q c = refl
 abbrev byte : ℕ → Float → ℕ
 byte j x = get_or (lowest_first 4 (to_bits binary32 x)) j 0
 
-pub byte-told : Told 64 byte_cell
-byte-told n f g e c h = ap (byte (c % 4)) (e (c / 4) (omega arith))
+pub byte_by_levels : ByLevels 64 byte_cell
+byte_by_levels n f g e c h = ap (byte (c % 4)) (e (c / 4) (omega arith))
 
 pub byte_shifts : Shifts 64 byte_cell
 byte_shifts f q c =

@@ -16,15 +16,15 @@ Whole f = length f ≡ floats_length
 -- ---- lanes
 
 -- Lane i of an array: its u after k rows, and its level in row k.
-abbrev pub moved_at : ℕ → List Float → ℕ → Float
-moved_at k f i = u_after k (u_at f i) (r_at f i) (d_at f i)
+abbrev pub u_after_rows : ℕ → List Float → ℕ → Float
+u_after_rows k f i = u_after k (u_at f i) (r_at f i) (d_at f i)
 
 abbrev pub drawn_at : ℕ → List Float → ℕ → Float
-drawn_at k f i = level_from (moved_at k f i) (scale_at f i) (base_at f i)
+drawn_at k f i = level_from (u_after_rows k f i) (scale_at f i) (base_at f i)
 
 -- Sixteen lanes from lane g on whose u a row leaves as it is.
 abbrev pub Still : ℕ → List Float → Type 0
-Still g f = (i : ℕ) → i < 16 → moved_at 1 f (g + i) ≡ u_at f (g + i)
+Still g f = (i : ℕ) → i < 16 → u_after_rows 1 f (g + i) ≡ u_at f (g + i)
 
 -- u, r, d, scale and base of a lane that stays, and whose level is +0 in every row.
 abbrev pub silence : List Float
@@ -94,11 +94,11 @@ module _ {A : Type 0} (z : A) (wide : ℕ) (cell : (ℕ → Float) → ℕ → A
   -- The sixteen lanes from lane g on are drawn, and moved on in the array.
   pub record GroupDrawn (stride at g rows : ℕ) (f : List Float) (o o' : List A) (f' : List Float) : Type 0 where
     pub laid : Laid stride at rows (λ k i. drawn_at k f (g + i)) o o'
-    pub moved : Filled nan (moved_at rows f) g (g + 16) f f'
+    pub moved : Filled nan (u_after_rows rows f) g (g + 16) f f'
 
   -- `rows` rows of every lane of the groups are drawn, and what is past them is kept. Each of these lanes is moved on.
   pub record Drawn (groups rows : ℕ) (f : List Float) (o o' : List A) (f' : List Float) : Type 0 where
     pub levels : (k c : ℕ) → k < rows → c < wide * groups → get_or o' (k * (wide * groups) + c) z ≡ cell (drawn_at k f) c
     pub past : (j : ℕ) → rows * (wide * groups) ≤ j → get_or o' j z ≡ get_or o j z
     pub long : length o' ≡ length o
-    pub moved : Filled nan (moved_at rows f) 0 (16 * groups) f f'
+    pub moved : Filled nan (u_after_rows rows f) 0 (16 * groups) f f'

@@ -1,2 +1,2 @@
 -- Laws of the settings: what becomes of a refusal.
-pub mod Handed
+pub mod Propagated

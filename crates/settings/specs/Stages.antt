@@ -14,14 +14,14 @@ next Sustain = Sustain
 next Release = Idle
 
 -- Whether it is untimed: its level stays until a call. Hold is not: it stays at 1 for its time.
-abbrev pub holds : Stage → Bool
-holds Idle = true
-holds Delay = false
-holds Attack = false
-holds Hold = false
-holds Decay = false
-holds Sustain = true
-holds Release = false
+abbrev pub is_untimed : Stage → Bool
+is_untimed Idle = true
+is_untimed Delay = false
+is_untimed Attack = false
+is_untimed Hold = false
+is_untimed Decay = false
+is_untimed Sustain = true
+is_untimed Release = false
 
 -- How many timed stages there are from it on, itself counted, up to an untimed one.
 abbrev pub timed_stages : Stage → ℕ
@@ -43,21 +43,21 @@ is_idle Sustain = false
 is_idle Release = false
 
 -- Whether a release changes nothing: it has begun already, or there is no note to end.
-abbrev pub is_released : Stage → Bool
-is_released Idle = true
-is_released Delay = false
-is_released Attack = false
-is_released Hold = false
-is_released Decay = false
-is_released Sustain = false
-is_released Release = true
+abbrev pub ignores_release : Stage → Bool
+ignores_release Idle = true
+ignores_release Delay = false
+ignores_release Attack = false
+ignores_release Hold = false
+ignores_release Decay = false
+ignores_release Sustain = false
+ignores_release Release = true
 
 -- Whether Sustain is still to come.
-abbrev pub leads_up : Stage → Bool
-leads_up Idle = false
-leads_up Delay = true
-leads_up Attack = true
-leads_up Hold = true
-leads_up Decay = true
-leads_up Sustain = false
-leads_up Release = false
+abbrev pub is_before_sustain : Stage → Bool
+is_before_sustain Idle = false
+is_before_sustain Delay = true
+is_before_sustain Attack = true
+is_before_sustain Hold = true
+is_before_sustain Decay = true
+is_before_sustain Sustain = false
+is_before_sustain Release = false

@@ -33,8 +33,8 @@ impl Stage {
     }
 
     // Whether it is untimed: its level stays until a call. Hold is not: it stays at 1 for its time.
-    pub fn holds(self) -> bool
-        ensures { result ≡ Stages.holds self }
+    pub fn is_untimed(self) -> bool
+        ensures { result ≡ Stages.is_untimed self }
     {
         matches!(self, Stage::Idle | Stage::Sustain)
     }
@@ -47,15 +47,15 @@ impl Stage {
     }
 
     // Whether a release changes nothing: it has begun already, or there is no note to end.
-    pub fn is_released(self) -> bool
-        ensures { result ≡ Stages.is_released self }
+    pub fn ignores_release(self) -> bool
+        ensures { result ≡ Stages.ignores_release self }
     {
         matches!(self, Stage::Idle | Stage::Release)
     }
 
     // Whether Sustain is still to come.
-    pub fn leads_up(self) -> bool
-        ensures { result ≡ Stages.leads_up self }
+    pub fn is_before_sustain(self) -> bool
+        ensures { result ≡ Stages.is_before_sustain self }
     {
         matches!(
             self,

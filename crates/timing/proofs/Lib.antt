@@ -1,3 +1,3 @@
 -- Laws about counts of samples.
 pub mod Counts
-pub mod Bench
+pub mod BenchValues

@@ -7,7 +7,7 @@ use Rattle.std.specs.Result.{IsOkAnd}
 use Rattle.settings.specs.declared.refusals.Refusal.{Refusal}
 use Rattle.settings.specs.Refusals.{number_of}
 use Rattle.bank.specs.Replies.{Reply, of_reading}
-use Rattle.worfelli.specs.Told.{refusal, or}
+use Rattle.worfelli.specs.OutParameters.{refusal, or}
 
 -- A reading whose value is taken as it is.
 pub same : {A : Type 0} (r : Result A Refusal) → MatchResult r (λ x. r ≡ Ok x) (λ e. r ≡ Err e)
@@ -25,13 +25,13 @@ mapped (Err e) s P out h f = h
 module _ {A B : Type 0} (tell : A → Reply) (out : A → B) (value : Reply → B → B) where
   pub record Values : Type 0 where
     pub accepted : (x : A) → refusal (tell x) ≡ 0
-    pub told : (x : A) (was : B) → value (tell x) was ≡ out x
+    pub written : (x : A) (was : B) → value (tell x) was ≡ out x
     pub refused : (n : ℕ) (was : B) → value (Reply.refused n) was ≡ was
 
   pub behind : Values → (r : Result A Refusal) (y : Reply) → of_reading tell r ≡ y → (s : Result B Refusal) → MatchResult r (λ x. s ≡ Ok (out x)) (λ e. s ≡ Err e)
       → (n : ℕ) (was after : B) → n ≡ number_of s → after ≡ or s was → (n ≡ refusal y) × (after ≡ value y was)
   unfolding of_reading refusal
   behind V (Ok x) y e s m n was after p q =
-      (p ∙ ap number_of m ∙ sym (V.accepted x) ∙ ap refusal e, q ∙ ap (λ (s : Result B Refusal). or s was) m ∙ sym (V.told x was) ∙ ap (λ (y : Reply). value y was) e)
+      (p ∙ ap number_of m ∙ sym (V.accepted x) ∙ ap refusal e, q ∙ ap (λ (s : Result B Refusal). or s was) m ∙ sym (V.written x was) ∙ ap (λ (y : Reply). value y was) e)
   behind V (Err x) y e s m n was after p q =
       (p ∙ ap number_of m ∙ ap refusal e, q ∙ ap (λ (s : Result B Refusal). or s was) m ∙ sym (V.refused _ was) ∙ ap (λ (y : Reply). value y was) e)

@@ -8,7 +8,7 @@ use Rattle.bank.specs.Banks as Banks
 use Rattle.bank.specs.Banks.{Bank}
 use Rattle.histories.specs.Demand.{run, bank_after}
 use Rattle.histories.proofs.Demand.{demand3}
-use Rattle.worfelli.specs.Live.{HostCall, answer, after, named_only, Heard}
+use Rattle.worfelli.specs.Live.{HostCall, answer, after, named_only, LiveList}
 
 abbrev step : Bank → Call → Bank
 step b c = (Banks.answer b c).bank
@@ -23,7 +23,7 @@ runs : (xs : List HostCall) (b : Bank) → after b xs ≡ run step b (named_only
 runs [] b = refl
 runs (x ∷ xs) b = one_on b x.named x.call xs (λ b. runs xs b)
 
-pub live_list : (o : Opening) (xs : List HostCall) → Heard o xs
+pub live_list : (o : Opening) (xs : List HostCall) → LiveList o xs
 unfolding bank_after
 live_list o xs =
     let e = runs xs (Banks.new o).bank in

@@ -34,7 +34,7 @@ restart-means (suc zero) = (refl, refl)
 restart-means (suc (suc n)) = le-ltb (suc (suc n)) 2 (omega arith)
 
 -- What a `?` hands on of a code that names nothing.
-pub handed : {T : Type 0} (P : T → Type 0) (t : Bool) (r : Result T Refusal) → IsErrAnd r (λ x. x ≡ Refusals.UnnamedCode) → t ≡ false
+pub propagated : {T : Type 0} (P : T → Type 0) (t : Bool) (r : Result T Refusal) → IsErrAnd r (λ x. x ≡ Refusals.UnnamedCode) → t ≡ false
     → MatchResult r P (λ x. (t ≡ false) × (x ≡ Refusals.UnnamedCode))
-handed P t (Ok x) h e = absurd h
-handed P t (Err x) h e = (e, h)
+propagated P t (Ok x) h e = absurd h
+propagated P t (Err x) h e = (e, h)

@@ -1,6 +1,6 @@
 -- What C's numbers stand for, and what a host gets of a live bank and of a list.
 pub mod Coded
 pub mod Live
-pub mod Told
+pub mod OutParameters
 pub mod Layout
 pub mod Lists

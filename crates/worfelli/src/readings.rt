@@ -5,16 +5,16 @@ ghost use Rattle.settings.specs.Refusals as Refusals;
 ghost use Rattle.bank.specs.Banks as Banks;
 ghost use Rattle.bank.specs.Calls.{Call, Query};
 ghost use Rattle.bank.specs.Replies as Replies;
-ghost use Rattle.worfelli.specs.Told as Told;
+ghost use Rattle.worfelli.specs.OutParameters as OutParameters;
 
 use crate::coded;
 use bank::Bank;
 use settings::Refusal;
 
 // What a reading told goes to `place`, unless it was refused; the answer is C's: 0 or the refusal's number.
-fn told<T: Copy>(reading: Result<T, Refusal>, place: &mut T) -> u32
+fn put<T: Copy>(reading: Result<T, Refusal>, place: &mut T) -> u32
     ensures refusal { result ≡ Refusals.number_of reading }
-    ensures told { place.new ≡ Told.or reading place.old }
+    ensures written { place.new ≡ OutParameters.or reading place.old }
 {
     match reading {
         Ok(value) => {
@@ -49,9 +49,9 @@ pub extern "C" fn worfelli_live_params(
     numbers: &mut [f32; 11],
     codes: &mut [u32; 3],
 ) -> u32
-    ensures refusal { result ≡ Told.refusal (Replies.reply (Banks.bank_of bank.now.arrays) (Call.ask (Query.params voice))) }
-    ensures numbers { numbers.new ≡ Told.numbers (Replies.reply (Banks.bank_of bank.now.arrays) (Call.ask (Query.params voice))) numbers.old }
-    ensures codes { codes.new ≡ Told.codes (Replies.reply (Banks.bank_of bank.now.arrays) (Call.ask (Query.params voice))) codes.old }
+    ensures refusal { result ≡ OutParameters.refusal (Replies.reply (Banks.bank_of bank.now.arrays) (Call.ask (Query.params voice))) }
+    ensures numbers { numbers.new ≡ OutParameters.numbers (Replies.reply (Banks.bank_of bank.now.arrays) (Call.ask (Query.params voice))) numbers.old }
+    ensures codes { codes.new ≡ OutParameters.codes (Replies.reply (Banks.bank_of bank.now.arrays) (Call.ask (Query.params voice))) codes.old }
 {
     match bank.params(voice) {
         Ok(params) => {
@@ -65,44 +65,44 @@ pub extern "C" fn worfelli_live_params(
 // Where a voice is: 0 Idle, 1 Delay, 2 Attack, 3 Hold, 4 Decay, 5 Sustain, 6 Release.
 #[unsafe(no_mangle)]
 pub extern "C" fn worfelli_live_stage(bank: &Bank, voice: usize, stage: &mut u32) -> u32
-    ensures refusal { result ≡ Told.refusal (Replies.reply (Banks.bank_of bank.now.arrays) (Call.ask (Query.stage voice))) }
-    ensures told { stage.new ≡ Told.number (Replies.reply (Banks.bank_of bank.now.arrays) (Call.ask (Query.stage voice))) stage.old }
+    ensures refusal { result ≡ OutParameters.refusal (Replies.reply (Banks.bank_of bank.now.arrays) (Call.ask (Query.stage voice))) }
+    ensures written { stage.new ≡ OutParameters.number (Replies.reply (Banks.bank_of bank.now.arrays) (Call.ask (Query.stage voice))) stage.old }
 {
-    told(bank.stage(voice).map(|stage| stage as u32), stage)
+    put(bank.stage(voice).map(|stage| stage as u32), stage)
 }
 
 // The level that a voice hands out next.
 #[unsafe(no_mangle)]
 pub extern "C" fn worfelli_live_level(bank: &Bank, voice: usize, level: &mut f32) -> u32
-    ensures refusal { result ≡ Told.refusal (Replies.reply (Banks.bank_of bank.now.arrays) (Call.ask (Query.level voice))) }
-    ensures told { level.new ≡ Told.level (Replies.reply (Banks.bank_of bank.now.arrays) (Call.ask (Query.level voice))) level.old }
+    ensures refusal { result ≡ OutParameters.refusal (Replies.reply (Banks.bank_of bank.now.arrays) (Call.ask (Query.level voice))) }
+    ensures written { level.new ≡ OutParameters.level (Replies.reply (Banks.bank_of bank.now.arrays) (Call.ask (Query.level voice))) level.old }
 {
-    told(bank.level(voice), level)
+    put(bank.level(voice), level)
 }
 
 // Whether a voice is idle: 1, else 0.
 #[unsafe(no_mangle)]
 pub extern "C" fn worfelli_live_is_idle(bank: &Bank, voice: usize, idle: &mut u32) -> u32
-    ensures refusal { result ≡ Told.refusal (Replies.reply (Banks.bank_of bank.now.arrays) (Call.ask (Query.is_idle voice))) }
-    ensures told { idle.new ≡ Told.number (Replies.reply (Banks.bank_of bank.now.arrays) (Call.ask (Query.is_idle voice))) idle.old }
+    ensures refusal { result ≡ OutParameters.refusal (Replies.reply (Banks.bank_of bank.now.arrays) (Call.ask (Query.is_idle voice))) }
+    ensures written { idle.new ≡ OutParameters.number (Replies.reply (Banks.bank_of bank.now.arrays) (Call.ask (Query.is_idle voice))) idle.old }
 {
-    told(bank.is_idle(voice).map(u32::from), idle)
+    put(bank.is_idle(voice).map(u32::from), idle)
 }
 
 // 0 when a voice is idle, else its release's count of samples.
 #[unsafe(no_mangle)]
 pub extern "C" fn worfelli_live_tail(bank: &Bank, voice: usize, frames: &mut u64) -> u32
-    ensures refusal { result ≡ Told.refusal (Replies.reply (Banks.bank_of bank.now.arrays) (Call.ask (Query.tail voice))) }
-    ensures told { frames.new ≡ Told.number (Replies.reply (Banks.bank_of bank.now.arrays) (Call.ask (Query.tail voice))) frames.old }
+    ensures refusal { result ≡ OutParameters.refusal (Replies.reply (Banks.bank_of bank.now.arrays) (Call.ask (Query.tail voice))) }
+    ensures written { frames.new ≡ OutParameters.number (Replies.reply (Banks.bank_of bank.now.arrays) (Call.ask (Query.tail voice))) frames.old }
 {
-    told(bank.tail(voice), frames)
+    put(bank.tail(voice), frames)
 }
 
 // The frames until a voice's Sustain, were only frames to follow; 0 in Idle, Sustain and Release.
 #[unsafe(no_mangle)]
 pub extern "C" fn worfelli_live_lead(bank: &Bank, voice: usize, frames: &mut u64) -> u32
-    ensures refusal { result ≡ Told.refusal (Replies.reply (Banks.bank_of bank.now.arrays) (Call.ask (Query.lead voice))) }
-    ensures told { frames.new ≡ Told.number (Replies.reply (Banks.bank_of bank.now.arrays) (Call.ask (Query.lead voice))) frames.old }
+    ensures refusal { result ≡ OutParameters.refusal (Replies.reply (Banks.bank_of bank.now.arrays) (Call.ask (Query.lead voice))) }
+    ensures written { frames.new ≡ OutParameters.number (Replies.reply (Banks.bank_of bank.now.arrays) (Call.ask (Query.lead voice))) frames.old }
 {
-    told(bank.lead(voice), frames)
+    put(bank.lead(voice), frames)
 }

@@ -9,11 +9,11 @@ use mir.Syntax.{w64}
 use mir.Val.{to_z, of_z}
 use Rattle.std.proofs.lemmas.Int.{ints}
 use Rattle.settings.specs.Refusals.{number, number_of}
-use Rattle.settings.proofs.Handed.{number-some}
+use Rattle.settings.proofs.Propagated.{number-some}
 use Rattle.bank.specs.Calls.{if_accepted}
 use Rattle.bank.proofs.Accepted.{if_refused, if_accepted_lem}
 use Rattle.checking.specs.Checks.{Checked, checked}
-use Rattle.checking.proofs.Passing.{held-frames, checked-held}
+use Rattle.checking.proofs.Passing.{has_room-frames, checked-has_room}
 use Rattle.player.specs.Playing.{level_bytes, put, result, output}
 use Rattle.player.proofs.play.Goals as goal
 use Rattle.player.proofs.play.Goals.{After-check-checked}
@@ -22,7 +22,7 @@ small : (c : After-check-checked) → c.check-checked.result.passed.frames < 2 ^
 small c =
     let a = c.args in
     let l = length a.out.now in
-    let H = held-frames (l / 4) _ (checked-held a.list.now l) in
+    let H = has_room-frames (l / 4) _ (checked-has_room a.list.now l) in
     let e = ap (λ (x : Checked). x.frames) c.check-checked.ensures in
     omega (arith, e, H, c.well_formed.1.0)
 

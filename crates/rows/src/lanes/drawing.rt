@@ -20,7 +20,7 @@ fn draw_moving<P: Place<N>, const N: usize>(
     g: usize,
 )
     requires { Rows.GroupFits N stride at rows (length out.old) g f.old }
-    ensures { Rows.GroupDrawn P.blank N P.cell stride at g rows f.old out.old out.new f.new }
+    ensures { Rows.GroupDrawn P.past_end N P.cell stride at g rows f.old out.old out.new f.new }
 {
     let mut lanes = Lanes::new(f, g);
     for k in 0..rows {
@@ -42,7 +42,7 @@ fn draw_still<P: Place<N>, const N: usize>(
     requires fits { Rows.GroupFits N stride at rows (length out.old) g f.now }
     requires still { Rows.Still g f.now }
     requires some { 1 ≤ rows }
-    ensures { Rows.Laid P.blank N P.cell stride at rows (λ k i. Rows.drawn_at k f.now (g + i)) out.old out.new }
+    ensures { Rows.Laid P.past_end N P.cell stride at rows (λ k i. Rows.drawn_at k f.now (g + i)) out.old out.new }
 {
     let row = P::row_of(&Lanes::new(f, g).levels());
     for k in 0..rows {
@@ -53,7 +53,7 @@ fn draw_still<P: Place<N>, const N: usize>(
 // Rows of one group after the other.
 fn draw_block<P: Place<N>, const N: usize>(out: &mut [P], f: &mut Floats, groups: usize, rows: u32)
     requires { (groups ≤ 4) × (rows * (N * groups) ≤ length out.old) }
-    ensures { Rows.Drawn P.blank N P.cell groups rows f.old out.old out.new f.new }
+    ensures { Rows.Drawn P.past_end N P.cell groups rows f.old out.old out.new f.new }
 {
     for q in 0..groups {
         if constant(rows, f, 16 * q) {
@@ -67,7 +67,7 @@ fn draw_block<P: Place<N>, const N: usize>(out: &mut [P], f: &mut Floats, groups
 // The next `rows` rows of every lane of the voices' groups, from the output's first level on, if it
 // has room for them all.
 pub fn draw<P: Place<N>, const N: usize>(out: &mut [P], f: &mut Floats, voices: usize, rows: u32)
-    ensures { Rows.Drawn P.blank N P.cell (Strides.groups_of (min voices Memory.max_voices)) (Rows.fitting rows (N * Strides.groups_of (min voices Memory.max_voices)) (length out.old)) f.old out.old out.new f.new }
+    ensures { Rows.Drawn P.past_end N P.cell (Strides.groups_of (min voices Memory.max_voices)) (Rows.fitting rows (N * Strides.groups_of (min voices Memory.max_voices)) (length out.old)) f.old out.old out.new f.new }
 {
     let groups = groups(voices);
     let stride = N * groups;

@@ -11,17 +11,17 @@ use crate::lanes::put;
 // A place of a row. Sixteen levels take N of them.
 pub trait Place<const N: usize>: Copy {
     // What a reading past the end gives.
-    ghost blank: { Self };
+    ghost past_end: { Self };
 
     // Place c of a row of levels.
     ghost cell: { (ℕ → Float) → ℕ → Self };
 
     // Sixteen levels as they are stored.
     fn row_of(y: &[f32; 16]) -> [Self; N]
-        ensures { (c : ℕ) → c < N → get_or result c blank ≡ cell (λ i. get_or y.now i nan) c };
+        ensures { (c : ℕ) → c < N → get_or result c past_end ≡ cell (λ i. get_or y.now i nan) c };
 
     // The places of groups depend on the levels of those groups alone.
-    ghost told: { Places.Told N cell };
+    ghost by_levels: { Places.ByLevels N cell };
 
     // A place of a later group depends on that group's lanes as the first group's place on its own.
     ghost shifts: { Places.Shifts N cell };
@@ -31,7 +31,7 @@ pub trait Place<const N: usize>: Copy {
 }
 
 impl Place<16> for f32 {
-    ghost blank = { nan };
+    ghost past_end = { nan };
 
     ghost cell = { Rows.float_cell };
 
@@ -39,7 +39,7 @@ impl Place<16> for f32 {
         *y
     }
 
-    ghost told = { Places.float_told };
+    ghost by_levels = { Places.float_by_levels };
 
     ghost shifts = { Places.float_shifts };
 
@@ -47,7 +47,7 @@ impl Place<16> for f32 {
 }
 
 impl Place<64> for u8 {
-    ghost blank = { 0 };
+    ghost past_end = { 0 };
 
     ghost cell = { Rows.byte_cell };
 
@@ -60,7 +60,7 @@ impl Place<64> for u8 {
         row
     }
 
-    ghost told = { Places.byte-told };
+    ghost by_levels = { Places.byte_by_levels };
 
     ghost shifts = { Places.byte_shifts };
 

@@ -48,7 +48,7 @@ run_of g c =
 pub loop-done-init : goal.loop-done-init
 loop-done-init g c =
     let a = c.args in
-    (omega arith, going_none g.P.Place.blank g.row.N g.P.Place.cell g.met.P.Place.told a.voices c.requires.few a.m.now a.out.now _ c.clear_spare.ensures)
+    (omega arith, going_none g.P.Place.past_end g.row.N g.P.Place.cell g.met.P.Place.by_levels a.voices c.requires.few a.m.now a.out.now _ c.clear_spare.ensures)
 
 pub pass-requires : goal.pass-requires
 pass-requires g c =
@@ -63,7 +63,7 @@ loop-done-preserved g c =
     let at : l.done * (g.row.N * c.groups-row.result) ≡ l.done * (g.row.N * groups_of a.voices) =
     ap (λ (s : ℕ). l.done * s) (row-is g (goal.at.loop-done-preserved g c).After-groups-row) in (
       omega (arith, run_of g (goal.at.loop-done-preserved g c).After-shorter-run),
-      going_more g.P.Place.blank g.row.N g.P.Place.cell g.met.P.Place.told a.voices c.requires.few (with_floats c.clear_spare.new.f a.m.now) a.out.now a.frames l.done _ _ _ l.m _ l.out _ _
+      going_more g.P.Place.past_end g.row.N g.P.Place.cell g.met.P.Place.by_levels a.voices c.requires.few (with_floats c.clear_spare.new.f a.m.now) a.out.now a.frames l.done _ _ _ l.m _ l.out _ _
           l.invariant.1 c.loop-done-test.true c.requires.room c.until_end-end.ensures.length c.until_end-end.ensures.counts c.shorter-run.ensures at c.draw.ensures c.pass.ensures,
     )
 
@@ -75,7 +75,7 @@ returns g c =
     record {
       floats = c.clear_spare.new.f;
       cleared = c.clear_spare.ensures;
-      going = subst (λ (k : ℕ). Going g.P.Place.blank g.row.N g.P.Place.cell a.voices (with_floats c.clear_spare.new.f a.m.now) a.out.now k l.m l.out) e l.invariant.1;
+      going = subst (λ (k : ℕ). Going g.P.Place.past_end g.row.N g.P.Place.cell a.voices (with_floats c.clear_spare.new.f a.m.now) a.out.now k l.m l.out) e l.invariant.1;
     }
 
 pub offset_bounds-out-done : goal.offset_bounds-out-done

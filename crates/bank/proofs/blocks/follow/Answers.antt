@@ -5,7 +5,7 @@ use Prim.Native.Nat.{ℕ, ◌+◌}
 use native.Mathlib.Omega.{arith}
 use Rattle.timing.specs.declared.Timing.{Timing}
 use Rattle.bank.specs.Parts.{changed, followed, Spread}
-use Rattle.bank.proofs.Held.{spread_none}
+use Rattle.bank.proofs.Representation.{spread_none}
 use Rattle.bank.proofs.Runs.{found, next-found, next-followed}
 use Rattle.bank.proofs.blocks.follow.Goals as goal
 

@@ -4,7 +4,7 @@ use mathlib.Core.Path.{ap}
 use Rattle.timing.specs.declared.Timing.{Timing}
 use Rattle.memory.specs.Memory.{timing_at, loaded}
 use Rattle.bank.specs.Parts.{changed}
-use Rattle.bank.proofs.Held.{one-done, one-missing}
+use Rattle.bank.proofs.Representation.{one-done, one-missing}
 use Rattle.bank.proofs.changes.with.Goals as goal
 
 pub returns-in_err-check : goal.returns-in_err-check

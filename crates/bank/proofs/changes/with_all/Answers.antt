@@ -5,7 +5,7 @@ use native.Mathlib.Omega.{arith}
 use Rattle.timing.specs.declared.Timing.{Timing}
 use Rattle.memory.specs.Memory.{count_of}
 use Rattle.bank.specs.Parts.{changed, All}
-use Rattle.bank.proofs.Held.{spread_none, spread_more, spread_all}
+use Rattle.bank.proofs.Representation.{spread_none, spread_more, spread_all}
 use Rattle.bank.proofs.changes.with_all.Goals as goal
 
 pub loop-v-init : goal.loop-v-init

@@ -3,7 +3,7 @@ use mathlib.Core.Path.{◌≡◌, refl, subst}
 use Prim.Native.Nat.{ℕ, ◌<◌}
 use native.Mathlib.Omega.{arith}
 use Rattle.bank.specs.Parts.{Spread}
-use Rattle.bank.proofs.Held.{spread_none, spread_more}
+use Rattle.bank.proofs.Representation.{spread_none, spread_more}
 use Rattle.bank.proofs.opening.fill.Goals as goal
 
 pub loop-v-init : goal.loop-v-init

@@ -4,7 +4,7 @@
 use mathlib.Core.Path.{ap, ◌∙◌}
 use Prim.Native.Nat.{ℕ}
 use native.Mathlib.Omega.{arith}
-use Rattle.settings.proofs.Handed.{number_of-handed, number-some}
+use Rattle.settings.proofs.Propagated.{number_of-propagated, number-some}
 use Rattle.checking.proofs.Passing.{left_all, at-past, left_one, left_refused, left_none}
 use Rattle.checking.proofs.Passed.records.Goals as goal
 
@@ -26,7 +26,7 @@ returns-in_err-record c =
     let l = c.loop-self in
     let q = c.record.new.self in
     let e = c.in_err-record in
-    ap (λ (n : ℕ). record { refusal = n; at = q.at; known = q.known; frames = q.frames }) (number_of-handed _ _ c.from_residual.ensures.1)
+    ap (λ (n : ℕ). record { refusal = n; at = q.at; known = q.known; frames = q.frames }) (number_of-propagated _ _ c.from_residual.ensures.1)
     ∙ left_refused _ _ _ l.self l.invariant _ c.loop-self-test.true (number-some e.field-0.0) e.ensures
 
 pub returns : goal.returns

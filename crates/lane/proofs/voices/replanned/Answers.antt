@@ -21,14 +21,14 @@ pub returns-then-eq : goal.returns-then-eq
 unfolding replan
 returns-then-eq c = simp (simp ((c.eq.ensures ∙ equal c.spec_of-spec.result c.args.lane.spec), c.spec_of-spec.ensures) at c.if-eq.true)
 
-pub returns-then-holds : goal.returns-then-holds
+pub returns-then-is_untimed : goal.returns-then-is_untimed
 unfolding replan
-returns-then-holds c =
+returns-then-is_untimed c =
     simp (
-      c.hold.ensures,
+      c.begin_untimed.ensures,
       c.spec_of-spec.ensures,
       simp ((c.eq.ensures ∙ equal c.spec_of-spec.result c.args.lane.spec), c.spec_of-spec.ensures) at c.if-eq.false,
-      simp c.holds.ensures at c.if-holds.true,
+      simp c.is_untimed.ensures at c.if-is_untimed.true,
     )
 
 pub returns-then-elapsed-spec : goal.returns-then-elapsed-spec
@@ -39,7 +39,7 @@ returns-then-elapsed-spec c =
       c.next.ensures,
       c.spec_of-spec.ensures,
       simp ((c.eq.ensures ∙ equal c.spec_of-spec.result c.args.lane.spec), c.spec_of-spec.ensures) at c.if-eq.false,
-      simp c.holds.ensures at c.if-holds.false,
+      simp c.is_untimed.ensures at c.if-is_untimed.false,
       le-leb _ _ (simp (c.elapsed-elapsed.ensures, c.spec_of-spec.ensures) at c.if-elapsed-spec.true),
     )
 
@@ -55,7 +55,7 @@ returns c =
         (c.eq.ensures ∙ equal c.spec_of-spec.result c.args.lane.spec),
         c.spec_of-spec.ensures,
       ) at c.if-eq.false,
-      simp c.holds.ensures at c.if-holds.false,
+      simp c.is_untimed.ensures at c.if-is_untimed.false,
       lt-leb _ _ (simp (
         c.elapsed-elapsed.ensures,
         c.spec_of-spec.ensures,

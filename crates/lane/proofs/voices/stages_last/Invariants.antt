@@ -2,7 +2,7 @@
 -- all of them. Measure: the timed stages from the present one on.
 use mathlib.Core.Path.{◌≡◌}
 use Prim.Native.Nat.{◌+◌, ◌≤◌}
-use Rattle.numbers.specs.Counts.{held}
+use Rattle.numbers.specs.Counts.{saturated}
 use Rattle.lane.specs.Readings.{last_from}
 use Rattle.settings.specs.Stages.{timed_stages}
 use Rattle.lane.proofs.voices.stages_last.Given as goal
@@ -10,7 +10,7 @@ use Rattle.lane.proofs.voices.stages_last.Given as goal
 abbrev pub invariant-loop-p : goal.invariant-loop-p
 invariant-loop-p l =
     (l.sum ≤ 18446744073709551615)
-    × (held (l.sum + last_from (timed_stages l.stage) l.p l.timing l.stage l.level) ≡ held (last_from (timed_stages l.initial.stage) l.p l.timing l.initial.stage l.initial.level))
+    × (saturated (l.sum + last_from (timed_stages l.stage) l.p l.timing l.stage l.level) ≡ saturated (last_from (timed_stages l.initial.stage) l.p l.timing l.initial.stage l.initial.level))
 
 abbrev pub decreases-loop-p : goal.decreases-loop-p
 decreases-loop-p l = timed_stages l.stage

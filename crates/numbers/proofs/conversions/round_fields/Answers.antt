@@ -1,10 +1,10 @@
 -- `round_fields`: by the exponent field the number saturates, is whole, has a fraction or rounds to 0, and each return is one law of `Rounding`.
 use Rattle.std.proofs.Common.{arith}
-use Rattle.numbers.proofs.Rounding.{rounded_held, rounded_whole, rounded_fraction, rounded_zero, divisor}
+use Rattle.numbers.proofs.Rounding.{rounded_saturated, rounded_whole, rounded_fraction, rounded_zero, divisor}
 use Rattle.numbers.proofs.conversions.round_fields.Goals as goal
 
 pub returns-then-e-ge1087 : goal.returns-then-e-ge1087
-returns-then-e-ge1087 c = rounded_held c.args.e c.args.t c.requires.0 c.requires.2 c.if-e-ge1087.true
+returns-then-e-ge1087 c = rounded_saturated c.args.e c.args.t c.requires.0 c.requires.2 c.if-e-ge1087.true
 
 pub returns-then-e-ge1076 : goal.returns-then-e-ge1076
 returns-then-e-ge1076 c = rounded_whole c.args.e c.args.t c.requires.1 (omega arith) (omega arith)

@@ -6,8 +6,8 @@ use lib.Ieee.{binary64, of_bits, to_bits, fits}
 use Rattle.numbers.proofs.stand_ins.ln_1p.Goals as goal
 use Rattle.numbers.proofs.stand_ins.ln_1p.Goals.{Start, Then-w-3, else-w-2-via-then-w-2+else-w-3, else-w-2-via-else-w-2}
 
-held : (c : Start) → T (fits binary64 c.args.a)
-held c = subst T (sym c.well_formed.0.1) tt
+in_format : (c : Start) → T (fits binary64 c.args.a)
+in_format c = subst T (sym c.well_formed.0.1) tt
 
 pub returns-then-w : goal.returns-then-w
 returns-then-w c = ln_same c.args.a c.if-w.true
@@ -16,7 +16,7 @@ pub float_to_bits-b : goal.float_to_bits-b
 float_to_bits-b c = positive_not_nan (W c.args.a) c.if-w-2.true
 
 low : (c : Then-w-3) → to_bits binary64 (W c.args.a) / 2 ^ 52 < 4096
-low c = field_lt c.args.a (held c.before.before.before) c.if-w.false c.if-w-2.true c.if-w-3.true
+low c = field_lt c.args.a (in_format c.before.before.before) c.if-w.false c.if-w-2.true c.if-w-3.true
 
 pub overflow_cast-e : goal.overflow_cast-e
 overflow_cast-e c = field_cast _ (low c)
@@ -25,18 +25,18 @@ pub overflow_sub-e : goal.overflow_sub-e
 overflow_sub-e c = exponent-fits _ (low c)
 
 pub float_from_bits-m : goal.float_from_bits-m
-float_from_bits-m c = m_not_nan c.args.a (held (goal.at.float_from_bits-m c).Start) c.if-w.false c.if-w-2.true c.if-w-3.true
+float_from_bits-m c = m_not_nan c.args.a (in_format (goal.at.float_from_bits-m c).Start) c.if-w.false c.if-w-2.true c.if-w-3.true
 
 pub overflow_add-e : goal.overflow_add-e
 overflow_add-e c = raised_fits _ (low (goal.at.overflow_add-e c).Then-w-3)
 
 pub returns-then-m : goal.returns-then-m
 returns-then-m c =
-    ln_halved c.args.a (held (goal.at.returns-then-m c).Start) c.if-w.false c.if-w-2.true c.if-w-3.true c.ln_of.result c.if-m.true c.ln_of.ensures
+    ln_halved c.args.a (in_format (goal.at.returns-then-m c).Start) c.if-w.false c.if-w-2.true c.if-w-3.true c.ln_of.result c.if-m.true c.ln_of.ensures
 
 pub returns-else-m : goal.returns-else-m
 returns-else-m c =
-    ln_kept c.args.a (held (goal.at.returns-else-m c).Start) c.if-w.false c.if-w-2.true c.if-w-3.true c.ln_of-else-m.result c.if-m.false c.ln_of-else-m.ensures
+    ln_kept c.args.a (in_format (goal.at.returns-else-m c).Start) c.if-w.false c.if-w-2.true c.if-w-3.true c.ln_of-else-m.result c.if-m.false c.ln_of-else-m.ensures
 
 pub returns-else-w-2 : goal.returns-else-w-2
 unfolding of_bits

@@ -2,7 +2,7 @@
 use Rattle.std.proofs.Common.{◌≡◌, ℕ, Bool, true, false, refl, cond, ◌∙◌, arith}
 use mathlib.Core.Logic.{◌≢◌}
 use Rattle.settings.specs.Refusals.{number, fresh, timing, params, rate_over}
-use Rattle.settings.proofs.Handed.{number_of-handed, number-some}
+use Rattle.settings.proofs.Propagated.{number_of-propagated, number-some}
 use Rattle.settings.proofs.refusals.check_fresh.Goals as goal
 
 some : (b : Bool) (n r : ℕ) → r ≡ cond b 4 0 → r ≢ 0 → r ≡ cond b 4 n
@@ -17,7 +17,7 @@ pub returns-in_err-check_timing : goal.returns-in_err-check_timing
 unfolding fresh timing
 returns-in_err-check_timing c =
     let e = c.in_err-check_timing.field-0.0 in
-    number_of-handed c.from_residual.result e c.from_residual.ensures.1
+    number_of-propagated c.from_residual.result e c.from_residual.ensures.1
     ∙ some (rate_over c.args.timing) (params c.args.p) (number e) c.in_err-check_timing.ensures (number-some e)
 
 pub returns : goal.returns

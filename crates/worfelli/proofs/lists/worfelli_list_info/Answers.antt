@@ -2,7 +2,7 @@
 -- leaves both numbers; both by `check`'s statement.
 use mathlib.Core.Path.{sym, ap, ◌∙◌}
 use Rattle.settings.specs.Refusals.{number}
-use Rattle.settings.proofs.Handed.{number-some}
+use Rattle.settings.proofs.Propagated.{number-some}
 use Rattle.bank.specs.Calls.{if_accepted}
 use Rattle.bank.proofs.Accepted.{if_refused}
 use Rattle.checking.specs.Checks.{Checked, seen}

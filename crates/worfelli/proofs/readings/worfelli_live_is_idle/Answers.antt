@@ -6,7 +6,7 @@ use Prim.Native.Nat.{ℕ}
 use mir.Val.{bool_byte}
 use Rattle.memory.specs.Memory.{flag_code}
 use Rattle.bank.specs.Replies.{Reply}
-use Rattle.worfelli.specs.Told.{refusal, number}
+use Rattle.worfelli.specs.OutParameters.{refusal, number}
 use Rattle.worfelli.proofs.Behind.{mapped, behind}
 use Rattle.worfelli.proofs.readings.worfelli_live_is_idle.Goals as goal
 
@@ -17,5 +17,5 @@ flag false y h = h
 pub returns : goal.returns
 unfolding refusal number
 returns c =
-    let r = behind Reply.is_idle flag_code number (record { accepted = λ x. refl; told = λ x was. refl; refused = λ n was. refl }) c.is_idle.result _ c.is_idle.ensures c.map.result (mapped _ c.map.result _ flag_code c.map.ensures.cases flag) _ c.args.idle.now _ c.told.ensures.refusal c.told.ensures.told in
-    record { refusal = r.0; told = r.1 }
+    let r = behind Reply.is_idle flag_code number (record { accepted = λ x. refl; written = λ x was. refl; refused = λ n was. refl }) c.is_idle.result _ c.is_idle.ensures c.map.result (mapped _ c.map.result _ flag_code c.map.ensures.cases flag) _ c.args.idle.now _ c.put.ensures.refusal c.put.ensures.written in
+    record { refusal = r.0; written = r.1 }

@@ -2,7 +2,7 @@
 -- both as they were.
 use mathlib.Core.Path.{sym, ap, ◌∙◌}
 use Rattle.bank.specs.Replies.{Reply, of_reading}
-use Rattle.worfelli.specs.Told.{refusal, numbers, codes}
+use Rattle.worfelli.specs.OutParameters.{refusal, numbers, codes}
 use Rattle.worfelli.proofs.readings.worfelli_live_params.Goals as goal
 
 pub returns-in-Ok : goal.returns-in-Ok

@@ -4,12 +4,12 @@ use mathlib.Core.Path.{refl}
 use Rattle.std.proofs.Common.{of_calls}
 use Rattle.memory.specs.Memory.{stage_code}
 use Rattle.bank.specs.Replies.{Reply}
-use Rattle.worfelli.specs.Told.{refusal, number}
+use Rattle.worfelli.specs.OutParameters.{refusal, number}
 use Rattle.worfelli.proofs.Behind.{mapped, behind}
 use Rattle.worfelli.proofs.readings.worfelli_live_stage.Goals as goal
 
 pub returns : goal.returns
 unfolding refusal number
 returns c =
-    let r = behind Reply.stage stage_code number (record { accepted = λ x. refl; told = λ x was. refl; refused = λ n was. refl }) c.stage.result _ c.stage.ensures c.map.result (mapped _ c.map.result _ stage_code c.map.ensures.cases (λ x y h. search of_calls)) _ c.args.stage.now _ c.told.ensures.refusal c.told.ensures.told in
-    record { refusal = r.0; told = r.1 }
+    let r = behind Reply.stage stage_code number (record { accepted = λ x. refl; written = λ x was. refl; refused = λ n was. refl }) c.stage.result _ c.stage.ensures c.map.result (mapped _ c.map.result _ stage_code c.map.ensures.cases (λ x y h. search of_calls)) _ c.args.stage.now _ c.put.ensures.refusal c.put.ensures.written in
+    record { refusal = r.0; written = r.1 }

@@ -2,12 +2,12 @@
 -- was there (`behind`).
 use mathlib.Core.Path.{refl}
 use Rattle.bank.specs.Replies.{Reply}
-use Rattle.worfelli.specs.Told.{refusal, number}
+use Rattle.worfelli.specs.OutParameters.{refusal, number}
 use Rattle.worfelli.proofs.Behind.{same, behind}
 use Rattle.worfelli.proofs.readings.worfelli_live_tail.Goals as goal
 
 pub returns : goal.returns
 unfolding refusal number
 returns c =
-    let r = behind Reply.count (λ x. x) number (record { accepted = λ x. refl; told = λ x was. refl; refused = λ n was. refl }) c.tail.result _ c.tail.ensures _ (same c.tail.result) _ c.args.frames.now _ c.told.ensures.refusal c.told.ensures.told in
-    record { refusal = r.0; told = r.1 }
+    let r = behind Reply.count (λ x. x) number (record { accepted = λ x. refl; written = λ x was. refl; refused = λ n was. refl }) c.tail.result _ c.tail.ensures _ (same c.tail.result) _ c.args.frames.now _ c.put.ensures.refusal c.put.ensures.written in
+    record { refusal = r.0; written = r.1 }

@@ -8,11 +8,11 @@ use Rattle.lane.specs.declared.lanes.Voice.{Voice}
 use Rattle.memory.specs.Memory.{timing_at}
 use Rattle.memory.proofs.Storing.{room}
 use Rattle.bank.specs.declared.changes.Change.TheVariants.{Join}
-use Rattle.bank.specs.Calls.{Call, named, refusal}
-use Rattle.bank.specs.Banks.{bank_of, size, known, voice, put, moved}
+use Rattle.bank.specs.Calls.{Call, voice_refusal, refusal}
+use Rattle.bank.specs.Banks.{bank_of, size, known, voice, put, after_accepted}
 use Rattle.bank.specs.Parts.{changed}
-use Rattle.bank.proofs.Held.{size_of, voice_of_lem}
-use Rattle.bank.proofs.Answers.{handed, of_one, both}
+use Rattle.bank.proofs.Representation.{size_of, voice_of_lem}
+use Rattle.bank.proofs.Answers.{propagated, of_one, both}
 use Rattle.bank.proofs.banks.Bank.join.Goals as goal
 
 pub returns-in_err-check : goal.returns-in_err-check
@@ -21,13 +21,13 @@ returns-in_err-check c =
     let a = c.args in
     let m = a.self.now.arrays in
     let h = c.in_err-check.ensures in
-    let none : named (known (bank_of m)) a.from 0 ≡ 2 = rw (le-ltb a.from (size (bank_of m)) (omega (arith, h.1, size_of m))) in
-    let r = handed (Call.join a.voice a.from) m c.from_residual.result c.in_err-check.field-0.0 c.from_residual.ensures.1
+    let none : voice_refusal (known (bank_of m)) a.from 0 ≡ 2 = rw (le-ltb a.from (size (bank_of m)) (omega (arith, h.1, size_of m))) in
+    let r = propagated (Call.join a.voice a.from) m c.from_residual.result c.in_err-check.field-0.0 c.from_residual.ensures.1
     (ap number h.0 ∙ sym (both (known (bank_of m)) a.voice a.from none)) in
     record { refusal = r.0; bank = r.1.0; kept = r.1.1 }
 
 pub returns : goal.returns
-unfolding refusal moved changed
+unfolding refusal after_accepted changed
 returns c =
     let a = c.args in
     let m = a.self.now.arrays in

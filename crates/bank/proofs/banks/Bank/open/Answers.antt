@@ -3,10 +3,10 @@
 use mathlib.Core.Path.{◌≡◌, refl, sym}
 use lib.Ieee.{of_bits}
 use Rattle.settings.specs.Settings.{amp}
-use Rattle.settings.proofs.Handed.{number-some}
+use Rattle.settings.proofs.Propagated.{number-some}
 use Rattle.bank.specs.Calls.{opening, opening_refusal}
 use Rattle.bank.proofs.Accepted.{opened_few}
-use Rattle.bank.proofs.Held.{none-opened, voices-opened}
+use Rattle.bank.proofs.Representation.{none-opened, voices-opened}
 use Rattle.bank.proofs.Answers.{opening-refused, opening-accepted}
 use Rattle.bank.proofs.banks.Bank.open.Goals as goal
 

@@ -8,7 +8,7 @@ use Rattle.envelope.specs.Envelopes as Envelopes
 use Rattle.memory.specs.Memory.{count_of, voice_at}
 use Rattle.memory.proofs.Storing.{room}
 use Rattle.bank.specs.Calls.{Query, query_refusal}
-use Rattle.bank.specs.Replies.{Reply, told, of_reading}
+use Rattle.bank.specs.Replies.{Reply, query_reply, of_reading}
 use Rattle.bank.proofs.Replying.{reading_present, reading_missing}
 use Rattle.bank.proofs.banks.Bank.params.Goals as goal
 
@@ -19,7 +19,7 @@ returns-in_err-check c =
     reading_missing a.self.now.arrays (Query.params a.voice) a.voice refl Reply.params c.from_residual.result c.in_err-check.field-0.0 c.from_residual.ensures.1 c.in_err-check.ensures
 
 pub returns : goal.returns
-unfolding voice_at query_refusal told of_reading
+unfolding voice_at query_refusal query_reply of_reading
 returns c =
     let a = c.args in
     let m = a.self.now.arrays in

@@ -4,7 +4,7 @@ use Prim.Native.Nat.{ℕ, ◌*◌, min}
 use native.Mathlib.Omega.{arith}
 use Rattle.rows.specs.Strides.{stride_of}
 use Rattle.bank.specs.Banks.{bank_of, size}
-use Rattle.bank.proofs.Held.{size_of}
+use Rattle.bank.proofs.Representation.{size_of}
 use Rattle.bank.proofs.banks.Bank.stride.Goals as goal
 
 pub returns : goal.returns

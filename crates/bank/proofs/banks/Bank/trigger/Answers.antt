@@ -4,13 +4,13 @@ use mathlib.Core.Path.{refl}
 use Rattle.memory.specs.Memory.{timing_at}
 use Rattle.bank.specs.declared.changes.Change.TheVariants.{Trigger}
 use Rattle.bank.specs.Calls.{Call, refusal}
-use Rattle.bank.specs.Banks.{bank_of, moved}
+use Rattle.bank.specs.Banks.{bank_of, after_accepted}
 use Rattle.bank.specs.Parts.{changed}
 use Rattle.bank.proofs.Answers.{of_one}
 use Rattle.bank.proofs.banks.Bank.trigger.Goals as goal
 
 pub returns : goal.returns
-unfolding refusal moved changed bank_of
+unfolding refusal after_accepted changed bank_of
 returns c =
     let a = c.args in
     let r = of_one (Call.trigger a.voice a.trigger) a.self.now.arrays a.voice (changed (timing_at a.self.now.arrays.bends) (Trigger a.trigger)) refl refl _ _ c.with.ensures

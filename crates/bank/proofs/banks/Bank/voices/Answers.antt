@@ -1,6 +1,6 @@
 -- `voices`: the count that the arrays hold is the bank's number of voices (`size_of`).
 use mathlib.Core.Path.{sym, ◌∙◌}
-use Rattle.bank.proofs.Held.{size_of}
+use Rattle.bank.proofs.Representation.{size_of}
 use Rattle.bank.proofs.banks.Bank.voices.Goals as goal
 
 pub returns : goal.returns

@@ -2,12 +2,12 @@
 use Rattle.lane.specs.Planning.{enter, settle}
 use Rattle.lane.proofs.lanes.Lane.enter.Goals as goal
 
-pub returns-then-holds : goal.returns-then-holds
+pub returns-then-is_untimed : goal.returns-then-is_untimed
 unfolding enter settle
-returns-then-holds c =
-    simp (c.hold.ensures, simp (c.holds.ensures, c.find-found.ensures) at c.if-holds.true, c.find-found.ensures)
+returns-then-is_untimed c =
+    simp (c.begin_untimed.ensures, simp (c.is_untimed.ensures, c.find-found.ensures) at c.if-is_untimed.true, c.find-found.ensures)
 
 pub returns : goal.returns
 unfolding enter settle
 returns c =
-    simp (c.begin.ensures, simp (c.holds.ensures, c.find-found.ensures) at c.if-holds.false, c.find-found.ensures)
+    simp (c.begin.ensures, simp (c.is_untimed.ensures, c.find-found.ensures) at c.if-is_untimed.false, c.find-found.ensures)

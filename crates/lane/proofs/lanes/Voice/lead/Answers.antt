@@ -3,22 +3,22 @@
 use mathlib.Core.Path.{◌≡◌}
 use Prim.Native.Nat.{ℕ, ◌+◌}
 use native.Mathlib.Omega.{arith}
-use Rattle.numbers.specs.Counts.{held}
+use Rattle.numbers.specs.Counts.{saturated}
 use Rattle.lane.specs.Readings.{lead, rest}
 use Rattle.lane.proofs.lanes.Voice.lead.Goals as goal
 
-plain : (a b c : ℕ) → held (held (a + b) + held c) ≡ held (a + b + c)
+plain : (a b c : ℕ) → saturated (saturated (a + b) + saturated c) ≡ saturated (a + b + c)
 plain a b c = omega arith
 
-pub returns-then-not-leads_up : goal.returns-then-not-leads_up
+pub returns-then-not-is_before_sustain : goal.returns-then-not-is_before_sustain
 unfolding lead
-returns-then-not-leads_up c = simp (simp c.leads_up.ensures at c.if-not-leads_up.true)
+returns-then-not-is_before_sustain c = simp (simp c.is_before_sustain.ensures at c.if-not-is_before_sustain.true)
 
 pub returns : goal.returns
 unfolding lead rest
 returns c =
     simp (
-      simp c.leads_up.ensures at c.if-not-leads_up.false,
+      simp c.is_before_sustain.ensures at c.if-not-is_before_sustain.false,
       c.saturating_add.ensures,
       c.stages_last.ensures,
       c.next.ensures,

@@ -2,11 +2,11 @@
 use Rattle.lane.specs.Voices.{release}
 use Rattle.lane.proofs.lanes.Voice.release.Goals as goal
 
-pub returns-then-is_released : goal.returns-then-is_released
+pub returns-then-ignores_release : goal.returns-then-ignores_release
 unfolding release
-returns-then-is_released c = simp (simp c.is_released.ensures at c.if-is_released.true)
+returns-then-ignores_release c = simp (simp c.ignores_release.ensures at c.if-ignores_release.true)
 
 pub returns : goal.returns
 unfolding release
 returns c =
-    simp (c.enter.ensures, c.level.ensures, simp c.is_released.ensures at c.if-is_released.false)
+    simp (c.enter.ensures, c.level.ensures, simp c.ignores_release.ensures at c.if-ignores_release.false)

@@ -30,6 +30,6 @@ loop-done-preserved g c =
     let l = c.loop-done in
     let h = fits g (goal.at.loop-done-preserved g c).After-min-n in (
       omega arith,
-      drawn_on g.P.Place.blank g.row.N g.P.Place.cell g.met.P.Place.told c.groups-groups.result l.done c.min-n.result _ (omega arith) a.f.now l.f _ a.out.now
+      drawn_on g.P.Place.past_end g.row.N g.P.Place.cell g.met.P.Place.by_levels c.groups-groups.result l.done c.min-n.result _ (omega arith) a.f.now l.f _ a.out.now
           l.out _ refl (omega arith) l.invariant.1 c.draw_block.ensures,
     )

@@ -13,12 +13,12 @@ loop-q-preserved g c =
     let p = g.P.Place in
     let stride = g.row.N * a.groups in
     let at = g.row.N * l.q in
-    let drawn : GroupDrawn p.blank g.row.N p.cell stride at (16 * l.q) a.rows l.f l.out c.if-constant.out c.if-constant.f =
+    let drawn : GroupDrawn p.past_end g.row.N p.cell stride at (16 * l.q) a.rows l.f l.out c.if-constant.out c.if-constant.f =
     elim c.if-constant.branch [
       | then-constant w ↦
           rw (w.out-is, w.f-is)
-          (group_still p.blank g.row.N p.cell stride at (16 * l.q) a.rows l.f l.out _ (c.constant.ensures w.if-constant.true).0 w.draw_still.ensures)
+          (group_still p.past_end g.row.N p.cell stride at (16 * l.q) a.rows l.f l.out _ (c.constant.ensures w.if-constant.true).0 w.draw_still.ensures)
       | else-constant w ↦ rw (w.out-is, w.f-is) w.draw_moving.ensures
     ]
     in
-    groups_more p.blank g.row.N p.cell g.met.P.Place.told g.met.P.Place.shifts stride l.q a.rows a.f.now l.f a.out.now l.out _ _ l.invariant drawn
+    groups_more p.past_end g.row.N p.cell g.met.P.Place.by_levels g.met.P.Place.shifts stride l.q a.rows a.f.now l.f a.out.now l.out _ _ l.invariant drawn

@@ -5,4 +5,4 @@ use Rattle.rows.proofs.lanes.drawing.draw_block.Given as goal
 
 abbrev pub invariant-loop-q : goal.invariant-loop-q
 invariant-loop-q g l =
-    GroupsDrawn g.P.Place.blank g.row.N g.P.Place.cell (g.row.N * l.groups) l.q l.rows l.initial.f l.initial.out l.out l.f
+    GroupsDrawn g.P.Place.past_end g.row.N g.P.Place.cell (g.row.N * l.groups) l.q l.rows l.initial.f l.initial.out l.out l.f

@@ -5,7 +5,7 @@ use Rattle.std.specs.Float.{nan}
 use Rattle.rows.specs.Rows.{drawn_at}
 use Rattle.rows.proofs.LanesMoved.{row-levels, row_moved}
 use Rattle.rows.proofs.RowsDrawn.{laid_more}
-use Rattle.rows.proofs.GroupsDrawn.{told-one, group_moved}
+use Rattle.rows.proofs.GroupsDrawn.{one_by_levels, group_moved}
 use Rattle.rows.proofs.lanes.drawing.draw_moving.Goals as goal
 
 pub loop-k-preserved : goal.loop-k-preserved
@@ -19,10 +19,10 @@ loop-k-preserved g c =
     let kept = c.next_row-y.ensures in
     record {
       laid =
-          laid_more p.blank g.row.N p.cell a.stride a.at (λ k i. drawn_at k f (a.g + i)) l.k a.out.now l.out _ _ (a.at + l.k * a.stride) c.requires.inside refl I.laid
+          laid_more p.past_end g.row.N p.cell a.stride a.at (λ k i. drawn_at k f (a.g + i)) l.k a.out.now l.out _ _ (a.at + l.k * a.stride) c.requires.inside refl I.laid
           (λ i h. c.row_of.ensures i h
-          ∙ told-one g.row.N p.cell g.met.P.Place.told (λ i. get_or c.next_row-y.result i nan) (λ i. drawn_at l.k f (a.g + i)) Y i h)
-          (c.put.ensures p.blank);
+          ∙ one_by_levels g.row.N p.cell g.met.P.Place.by_levels (λ i. get_or c.next_row-y.result i nan) (λ i. drawn_at l.k f (a.g + i)) Y i h)
+          (c.put.ensures p.past_end);
       u = row_moved a.g f l.k l.lanes.u I.u _ _ _ I.r I.d kept.moved;
       r = rw kept.r I.r;
       d = rw kept.d I.d;
@@ -35,5 +35,5 @@ returns g c =
     let a = c.args in
     let l = c.loop-k in
     let e : l.k ≡ a.rows = omega arith in
-    group_moved g.P.Place.blank g.row.N g.P.Place.cell a.stride a.at a.g a.rows a.f.now a.out.now l.out l.k l.lanes.u _ e l.invariant.laid l.invariant.u
+    group_moved g.P.Place.past_end g.row.N g.P.Place.cell a.stride a.at a.g a.rows a.f.now a.out.now l.out l.k l.lanes.u _ e l.invariant.laid l.invariant.u
     (c.put-2.ensures nan)

@@ -7,7 +7,7 @@ use Rattle.rows.proofs.lanes.drawing.draw_moving.Given as goal
 
 abbrev pub invariant-loop-k : goal.invariant-loop-k
 invariant-loop-k g l = record {
-  laid : Laid g.P.Place.blank g.row.N g.P.Place.cell l.stride l.at l.k (λ k i. drawn_at k l.f (l.g + i)) l.initial.out l.out;
+  laid : Laid g.P.Place.past_end g.row.N g.P.Place.cell l.stride l.at l.k (λ k i. drawn_at k l.f (l.g + i)) l.initial.out l.out;
   u : Moved l.k l.g l.f l.lanes.u;
   r : Loaded (l.g + 68) l.f l.lanes.r;
   d : Loaded (l.g + 136) l.f l.lanes.d;

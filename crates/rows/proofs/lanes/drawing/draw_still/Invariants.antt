@@ -5,4 +5,4 @@ use Rattle.rows.proofs.lanes.drawing.draw_still.Given as goal
 
 abbrev pub invariant-loop-k : goal.invariant-loop-k
 invariant-loop-k g l =
-    Laid g.P.Place.blank g.row.N g.P.Place.cell l.stride l.at l.k (λ k i. drawn_at k l.f (l.g + i)) l.initial.out l.out
+    Laid g.P.Place.past_end g.row.N g.P.Place.cell l.stride l.at l.k (λ k i. drawn_at k l.f (l.g + i)) l.initial.out l.out

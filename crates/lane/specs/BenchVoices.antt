@@ -37,16 +37,16 @@ settings attack decay =
       steal_restart = CurrentLevel;
     }
 
-abbrev pub struck : EnvelopeParams → Voice
-struck p = trigger clock New (new p)
+abbrev pub triggered : EnvelopeParams → Voice
+triggered p = trigger clock New (new p)
 
 -- An attack of 16,385 samples.
 abbrev pub long : Voice
-long = struck (settings (fin false 16385 (pos 0)) zero)
+long = triggered (settings (fin false 16385 (pos 0)) zero)
 
 -- Three samples into a decay of 4, and that decay with another time.
 abbrev pub decaying : Voice
-decaying = frames 3 clock (struck (settings zero (fin false 1 (pos 2))))
+decaying = frames 3 clock (triggered (settings zero (fin false 1 (pos 2))))
 
 abbrev pub replanned : Float → Voice
 replanned decay = set_params clock (settings zero decay) decaying

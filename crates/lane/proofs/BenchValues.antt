@@ -13,10 +13,10 @@ use Rattle.curve.specs.Segments.{untimed, level}
 use Rattle.curve.specs.Curves.{bend, progress, time_at, at, is_straight, straight, bent, segment}
 use Rattle.settings.specs.declared.stages.Stage.TheVariants.{Attack, Decay, Sustain}
 use Rattle.lane.specs.declared.lanes.Voice.{Voice}
-use Rattle.lane.specs.Planning.{new, spec, same, join, join_attack, start_segment, find, find_from, hold, begin, settle, enter, moved, advance}
+use Rattle.lane.specs.Planning.{new, spec, same, join, join_attack, start_segment, find, find_from, begin_untimed, begin, settle, enter, past_segment, advance}
 use Rattle.lane.specs.Voices.{leaves_alone, note_level, trigger, elapsed, replan, with_params, set_params, stepped, frame, frames}
 use Rattle.lane.specs.Readings.{rest}
-use Rattle.lane.specs.Bench.{clock, settings, long, decaying, replanned, three_eighths, attacked}
+use Rattle.lane.specs.BenchVoices.{clock, settings, long, decaying, replanned, three_eighths, attacked}
 use Rattle.lane.proofs.Frames.{frames-add, frames_end}
 
 -- Count 16,385 has segments 16,384 and 1; a straight attack of 4 from start 0, joined at 0.375, begins at 2; a decay of 4, replanned after 3 samples
@@ -29,7 +29,7 @@ pub table :
     (l.stage ≡ Attack) × (l.seg_len ≡ 16384) × ((advance clock l).lane.stage ≡ Attack) × ((advance clock l).lane.seg_len ≡ 1)
     × ((join_attack p three_eighths (spec p Attack clock three_eighths)).pos ≡ 2)
     × (decaying.lane.stage ≡ Decay) × (shorter.lane.stage ≡ Sustain) × (longer.lane.stage ≡ Decay) × (rest longer ≡ 2)
-unfolding new trigger leaves_alone note_level enter find find_from settle begin hold start_segment spec join join_attack advance moved samples product seconds max clamp unit is_nan bend time_at lt le eq add sub mul div round round_u64 of_bits of_int frame stepped set_params with_params replan elapsed same rest segment straight bent at progress level is_straight narrow neg
+unfolding new trigger leaves_alone note_level enter find find_from settle begin begin_untimed start_segment spec join join_attack advance past_segment samples product seconds max clamp unit is_nan bend time_at lt le eq add sub mul div round round_u64 of_bits of_int frame stepped set_params with_params replan elapsed same rest segment straight bent at progress level is_straight narrow neg
 table = (refl, refl, refl, refl, refl, refl, refl, refl, refl)
 
 -- The same voices played on: what is left of the long attack's segments, and what follows them; an attack joined at 0.375 beside the whole one; and
@@ -47,7 +47,7 @@ pub played :
     × ((frames 2 clock joined).lane.stage ≡ Sustain)
     × (decaying.seg.left ≡ 1)
     × (((frame clock longer).lane.stage ≡ Decay) × ((frames 2 clock longer).lane.stage ≡ Sustain))
-unfolding new trigger leaves_alone note_level enter find find_from settle begin hold start_segment spec join join_attack advance moved samples product seconds max clamp unit is_nan bend time_at lt le eq add sub mul div round round_u64 of_bits of_int frame stepped set_params with_params replan elapsed same rest segment straight bent at progress level is_straight narrow neg
+unfolding new trigger leaves_alone note_level enter find find_from settle begin begin_untimed start_segment spec join join_attack advance past_segment samples product seconds max clamp unit is_nan bend time_at lt le eq add sub mul div round round_u64 of_bits of_int frame stepped set_params with_params replan elapsed same rest segment straight bent at progress level is_straight narrow neg
 played = (refl, (refl, refl, refl), refl, (refl, refl, refl), (refl, refl, refl), refl, refl, (refl, refl))
 
 segment_ends : (n : ℕ) (v : Voice) → v.seg.left ≡ n → 1 ≤ n → n < untimed → frames n clock v ≡ advance clock v.lane

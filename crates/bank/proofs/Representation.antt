@@ -1,4 +1,4 @@
--- The bank that the arrays hold (`bank_of`) is equal to one whose timing, number of voices and voices are the arrays' (`held`). So a voice that is
+-- The bank that the arrays hold (`bank_of`) is equal to one whose timing, number of voices and voices are the arrays' (`represents`). So a voice that is
 -- stored is put into the bank (`bank-stored`), and where each of the voices was changed the bank is (`spread_all`). `spread_more` is the step lemma
 -- of loops over voices: the first e are changed and every other number is as it was, then one more is changed. By cases on whether a voice is the one
 -- that was stored; all others are as before by its frame condition.
@@ -18,7 +18,7 @@ use Rattle.timing.specs.declared.Timing.{Timing}
 use Rattle.settings.specs.declared.refusals.Refusal.{Refusal}
 use Rattle.settings.specs.declared.refusals.Refusal.TheVariants.{NoSuchVoice}
 use Rattle.settings.specs.Refusals.{number, number_of}
-use Rattle.settings.proofs.Handed.{number_of-handed}
+use Rattle.settings.proofs.Propagated.{number_of-propagated}
 use Rattle.settings.specs.declared.settings.EnvelopeParams.{EnvelopeParams}
 use Rattle.settings.specs.Settings.{amp}
 use Rattle.lane.specs.declared.lanes.Voice.{Voice}
@@ -48,9 +48,9 @@ unfolding bank_of
 timing_of_lem m = refl
 
 -- It is equal to a bank whose timing, number of voices and voices are those in the arrays.
-pub held : (m : Arrays) (b : Bank) → timing_at m.bends ≡ b.timing → count_of m.codes ≡ size b
+pub represents : (m : Arrays) (b : Bank) → timing_at m.bends ≡ b.timing → count_of m.codes ≡ size b
     → ((v : ℕ) → v < count_of m.codes → voice_at m v ≡ voice b v) → bank_of m ≡ b
-held m b t n h =
+represents m b t n h =
     bank_ext (bank_of m) b (timing_of_lem m ∙ t) (size_of m ∙ n)
     (λ v i. let j : v < count_of m.codes = omega (arith, i, size_of m) in voice_of_lem m v j ∙ h v j)
 
@@ -61,7 +61,7 @@ counts_same m m' e = ap (λ (n : ℕ). min n 64) e
 
 pub bank-stored : (v : ℕ) (x : Voice) (m m' : Arrays) → Stored v x m m' → v < count_of m.codes → bank_of m' ≡ put v x (bank_of m)
 bank-stored v x m m' S h =
-    held m' (put v x (bank_of m)) (S.timing ∙ sym (timing_of_lem m)) (counts_same m m' S.voices ∙ sym (size_of m) ∙ sym (size-put (bank_of m) v x))
+    represents m' (put v x (bank_of m)) (S.timing ∙ sym (timing_of_lem m)) (counts_same m m' S.voices ∙ sym (size_of m) ∙ sym (size-put (bank_of m) v x))
     (λ w i.
     let j : w < count_of m.codes = omega (arith, i, counts_same m m' S.voices) in
     go w j (eqb w v) refl ∙ sym (voice-put (bank_of m) v x w (omega (arith, j, size_of m))))
@@ -90,7 +90,7 @@ one-refused v g m h =
 -- Refused by the test for the voice.
 pub one-missing : (v : ℕ) (g : Voice → Voice) (m : Arrays) {A : Type 0} (r : Result A Refusal) (e : Refusal) → IsErrAnd r (λ x. x ≡ e)
     → (e ≡ NoSuchVoice) × (count_of m.codes ≤ v) → One v g (number_of r) m m
-one-missing v g m r e i h = subst (λ (n : ℕ). One v g n m m) (sym (number_of-handed r e i ∙ ap number h.0)) (one-refused v g m h.1)
+one-missing v g m r e i h = subst (λ (n : ℕ). One v g n m m) (sym (number_of-propagated r e i ∙ ap number h.0)) (one-refused v g m h.1)
 
 -- ---- each voice
 
@@ -128,7 +128,7 @@ module _ (g : Voice → Voice) (m : Arrays) where
   spread_all n m' e P =
       record {
         bank =
-            held m' (on_all g (bank_of m)) (P.timing ∙ sym (timing_of_lem m)) (counts_same m m' P.voices ∙ sym (size_of m) ∙ sym (size-on_all g (bank_of m)))
+            represents m' (on_all g (bank_of m)) (P.timing ∙ sym (timing_of_lem m)) (counts_same m m' P.voices ∙ sym (size_of m) ∙ sym (size-on_all g (bank_of m)))
             (λ v i.
             let j : v < count_of m.codes = omega (arith, i, counts_same m m' P.voices) in
             P.below v (omega (arith, j, e)) ∙ ap g (sym (voice_of_lem m v j)) ∙ sym (voice-on_all (bank_of m) g v (omega (arith, j, size_of m))));
@@ -146,7 +146,7 @@ module _ (t : Timing) (m : Arrays) (k' : List Float) (T : TimingPut t m.bends k'
   timed-same w = record { columns = refl; left = refl; floats = refl; bends = T.there w; counts = refl; codes = refl }
 
   pub timed-bank : bank_of timed ≡ with_timing t (bank_of m)
-  timed-bank = held timed (with_timing t (bank_of m)) T.here (sym (size_of m)) (λ v h. voice-same v m timed (timed-same v) ∙ sym (voice_of_lem m v h))
+  timed-bank = represents timed (with_timing t (bank_of m)) T.here (sym (size_of m)) (λ v h. voice-same v m timed (timed-same v) ∙ sym (voice_of_lem m v h))
 
 -- A fresh bank: the number of voices, the timing, then idle voices.
 module _ (n : ℕ) (t : Timing) (m : Arrays) (k' : List Float) (c' : List ℕ) (T : TimingPut t m.bends k') (N : VoicesPut (min n 64) m.codes c') where
@@ -160,13 +160,13 @@ module _ (n : ℕ) (t : Timing) (m : Arrays) (k' : List Float) (c' : List ℕ) (
   pub none-opened : n ≡ 0 → (p : EnvelopeParams) (t' : Timing) → t ≡ t' → (bank_of begun ≡ idle 0 p t') × KeptFrom 0 m begun
   none-opened e p t' q =
       let z : count_of c' ≡ 0 = omega (arith, N.here, e) in
-      (held begun (idle 0 p t') (T.here ∙ q) z (λ v h. absurd (omega (arith, h, z))), λ w i j. begun-same w j)
+      (represents begun (idle 0 p t') (T.here ∙ q) z (λ v h. absurd (omega (arith, h, z))), λ w i j. begun-same w j)
 
   pub voices-opened : n ≤ 64 → (p : EnvelopeParams) (x : Voice) (m' : Arrays) → x ≡ Planning.new p → Spread (λ _. x) n begun m'
       → (bank_of m' ≡ idle n p t) × KeptFrom n m m'
   voices-opened l p x m' e P =
       let k : count_of m'.codes ≡ n = omega (arith, P.voices, N.here, l) in (
-        held m' (idle n p t) (P.timing ∙ T.here) (k ∙ sym (length-replicate n (Planning.new p)))
+        represents m' (idle n p t) (P.timing ∙ T.here) (k ∙ sym (length-replicate n (Planning.new p)))
             (λ v h.
             let i : v < n = omega (arith, h, k) in
             P.below v i ∙ e ∙ sym (get_or-replicate n v (Planning.new p) (Planning.new amp) i)),

@@ -8,9 +8,9 @@ use Rattle.settings.specs.declared.refusals.Refusal.{Refusal}
 use Rattle.settings.specs.declared.refusals.Refusal.TheVariants.{TooManyVoices, NoSuchVoice, TimeOver, RateOver, NotWholeFrames, CutShort, UnknownTag, WrongLength, MisplacedOpen, UnnamedCode, OutputTooShort}
 use Rattle.settings.specs.Refusals.{number, number_of}
 
-pub number_of-handed : {A : Type 0} (r : Result A Refusal) (e : Refusal) → IsErrAnd r (λ x. x ≡ e) → number_of r ≡ number e
-number_of-handed (Ok x) e h = absurd h
-number_of-handed (Err x) e h = ap number h
+pub number_of-propagated : {A : Type 0} (r : Result A Refusal) (e : Refusal) → IsErrAnd r (λ x. x ≡ e) → number_of r ≡ number e
+number_of-propagated (Ok x) e h = absurd h
+number_of-propagated (Err x) e h = ap number h
 
 -- No refusal's number is 0.
 pub number-some : (e : Refusal) → number e ≢ 0

@@ -1,11 +1,11 @@
 -- Document 01's bench table, from the values that each crate computes of its own definitions.
 use mathlib.Core.Path.{refl}
-use Rattle.numbers.proofs.Bench as Numbers
-use Rattle.timing.proofs.Bench as Timing
-use Rattle.lane.proofs.Bench as Lane
-use Rattle.histories.specs.Bench.{Bench}
+use Rattle.numbers.proofs.BenchValues as Numbers
+use Rattle.timing.proofs.BenchValues as Timing
+use Rattle.lane.proofs.BenchValues as Lane
+use Rattle.histories.specs.BenchValues.{BenchValues}
 
-pub table : Bench
+pub table : BenchValues
 table =
     record {
       unit_of_nan = (Numbers.table).0;

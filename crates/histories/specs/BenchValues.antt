@@ -1,4 +1,4 @@
--- Document 01's bench table, whole and in its order, as one fact about the definitions: `table` in proofs/Bench.antt.
+-- Document 01's bench table, whole and in its order, as one fact about the definitions: `table` in proofs/BenchValues.antt.
 use Rattle.std.specs.Prelude.{◌≡◌, true, false, pos, negsuc}
 use Rattle.std.specs.Float.{nan, fin, binary64}
 use Rattle.std.specs.Float.Ieee.{of_bits}
@@ -15,10 +15,10 @@ use Rattle.settings.specs.declared.stages.Stage.TheVariants.{Attack, Decay, Sust
 use Rattle.lane.specs.Planning.{spec, join_attack, advance}
 use Rattle.lane.specs.Voices.{frame, frames}
 use Rattle.lane.specs.Readings.{rest}
-use Rattle.lane.specs.Bench.{clock, settings, long, decaying, replanned, three_eighths, attacked}
+use Rattle.lane.specs.BenchVoices.{clock, settings, long, decaying, replanned, three_eighths, attacked}
 use Rattle.rows.specs.Strides.{stride_of}
 
-pub record Bench : Type 0 where
+pub record BenchValues : Type 0 where
   -- unit(NaN) = unit(-0) = +0.
   pub unit_of_nan : unit nan ≡ zero
   pub unit_of_negative_zero : unit (fin true 0 (pos 0)) ≡ zero
