@@ -25,7 +25,7 @@ pub record Bank : Type 0 where
   pub timing : Timing
   pub voices : List Voice
 
--- The bank that the arrays hold.
+-- The abstraction function: the bank that the arrays represent. Any content of the arrays is some bank.
 unfoldable pub bank_of : Arrays → Bank
 bank_of m = record { timing = timing_at m.bends; voices = tabulate (count_of m.codes) (voice_at m) }
 

@@ -9,7 +9,7 @@ use Rattle.rows.specs.Rows.{Silent}
 abbrev pub KeptFrom : ℕ → Arrays → Arrays → Type 0
 KeptFrom n m m' = (w : ℕ) → n ≤ w → w < lanes → Same w m m'
 
--- A refused call leaves every number, and an accepted one the lanes that are no voices.
+-- The frame condition of a call: refused it leaves every number, and accepted the lanes that are no voices.
 pub record Kept (refusal : ℕ) (m m' : Arrays) : Type 0 where
   pub refused : refusal ≢ 0 → m' ≡ m
   pub beside : KeptFrom (count_of m.codes) m m'

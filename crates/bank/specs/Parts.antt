@@ -23,7 +23,7 @@ changed t Reset x = Voices.reset t x
 changed t (Join from) x = from
 changed t Follow x = Planning.advance t x.lane
 
--- Each of the first e voices has been changed by g, and every other number is as it was.
+-- Each of the first e voices has been changed by g; every other number is as it was, which is the frame condition.
 pub record Spread (g : Voice → Voice) (e : ℕ) (m m' : Arrays) : Type 0 where
   pub below : (w : ℕ) → w < e → voice_at m' w ≡ g (voice_at m w)
   pub above : KeptFrom e m m'

@@ -54,7 +54,7 @@ reply b c = reply_from (known b) (envelope b) (λ n. rows n b) c
 
 -- ---- a reading's answer, in document 01's numbers and values
 
--- What it told, or the refusal.
+-- Its value, as a reply, or the refusal.
 unfoldable pub of_reading : {A : Type 0} → (A → Reply) → Result A Refusal → Reply
 of_reading wrap (Ok x) = wrap x
 of_reading wrap (Err r) = Reply.refused (number r)

@@ -24,7 +24,7 @@ use Rattle.checking.specs.Checks.{Checked, so_far, start, refused_at, passed, ju
 use Rattle.bank.proofs.Accepted.{if_refused, if_accepted_lem}
 use Rattle.checking.proofs.Judging.{own, judged-passed, passed_few}
 
--- What holds of how far it came: at most 64 voices, and an output that holds the frames.
+-- The check's invariant: at most 64 voices, and an output that has room for the frames so far.
 pub record HasRoom (room : ℕ) (c : Checked) : Type 0 where
   pub voices : c.known.voices ≤ max_voices
   pub levels : c.frames * stride_of c.known.voices ≤ room

@@ -22,7 +22,7 @@ unfolding written
 block-rows b n a out e =
     subst (λ (n : ℕ). length out ≡ a * stride_of n → written b out ≡ rows a b) e (λ f. rw (f, (whole (known b) a).0, (whole (known b) a).1))
 
--- What is read of a block.
+-- The histories after a block.
 abbrev blocked : Histories → ℕ → Histories
 blocked r a = record { known = r.known; fresh = r.fresh; entries = λ v. (frames_more a (history r v)).entries }
 

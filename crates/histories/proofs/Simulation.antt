@@ -18,6 +18,7 @@ use Rattle.histories.specs.Demand.{Histories, history, extended, after_call, fre
 use Rattle.histories.proofs.Lists.{run-append}
 use Rattle.histories.proofs.Kept.{Live, acted, Kept, as_many, alone, kept, kept-frames}
 
+-- The simulation relation: b knows what r does, and each voice of b, with its timing, is the envelope of its history in r.
 pub record Simulates (b : Bank) (r : Histories) : Type 0 where
   pub knows : known b ≡ r.known
   pub at : (v : ℕ) → v < size b → envelope b v ≡ envelope_of (history r v)
@@ -50,6 +51,7 @@ kept-simulates b b' r x k s q =
       at = λ w h. let i : w < size b = omega (arith, q.voices) in q.at w i ∙ acted-after_effect b r s w i (x w) (q.live w);
     }
 
+-- The step lemma: after a call, accepted or refused, the bank simulates the histories after it.
 pub call-simulates : (b : Bank) (r : Histories) → Simulates b r → (c : Call) → Simulates (answer b c).bank (after_call r c)
 unfolding answer after_call
 call-simulates b r s c = go (refusal (known b) c) refl

@@ -123,7 +123,7 @@ abbrev pub after_effect : (ℕ → List Entry) → ℕ → Effect → List Entry
 after_effect es w (enter new) = es w ++ new
 after_effect es w (copy u) = es u
 
--- What a list of calls tells: of the bank as a whole, and each voice's entries.
+-- The histories of all voices: what the calls so far tell of the bank as a whole, the fresh settings and timing, and each voice's entries.
 pub record Histories : Type 0 where
   pub known : Known
   pub fresh : Fresh

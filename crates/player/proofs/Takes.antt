@@ -1,5 +1,5 @@
--- The levels of an accepted list are those that demand 3 says are due for its calls (`rendered-expected`): the first record opens a bank, no later one does,
--- so that the others are calls; and what a bank replies to calls is due (`replies-expected`). By induction on the events.
+-- The levels of an accepted list are those that demand 3 expects for its calls (`rendered-expected`): the first record opens a bank, no later one does,
+-- so that the others are calls; and a bank replies to calls as is expected (`replies-expected`). By induction on the events.
 use mathlib.Core.Path.{◌≡◌, refl, sym, ap, ◌∙◌, subst}
 use mathlib.Core.Bool.{true, false}
 use mathlib.Core.List.{List, [], ◌∷◌, ◌++◌}

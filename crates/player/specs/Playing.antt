@@ -1,4 +1,4 @@
--- The levels that playing a list hands out, and what the console's host gets of it, in bytes.
+-- The levels that a list is rendered to, and what the console's host gets of it, in bytes.
 use Rattle.std.specs.Prelude.{ℕ, zero, suc, List, [], ◌∷◌, ◌++◌, ℤ, pos, neg_ℤ, length, drop, Float}
 use Rattle.numbers.specs.Constants as Constants
 use Rattle.timing.specs.Clock as Clock
@@ -51,12 +51,12 @@ levels (Reply.level x) = []
 levels (Reply.is_idle x) = []
 levels (Reply.count n) = []
 
--- What an event hands out.
+-- The levels of one action.
 unfoldable pub action_levels : Bank → Action → List Float
 action_levels b (opens o) = []
 action_levels b (calls c) = levels (Replies.reply b c)
 
--- The levels of events that are played one after the other.
+-- The levels of events that are rendered one after the other.
 abbrev pub rendered : Bank → List Event → List Float
 rendered b [] = []
 rendered b (e ∷ es) = let d = action (Banks.known b) e in action_levels b d ++ rendered (after b d) es

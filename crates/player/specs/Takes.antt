@@ -1,4 +1,4 @@
--- A list as a bank's calls: what ties the levels that a host hears to demand 3.
+-- A list as a bank's calls: what ties the levels that a host gets to demand 3.
 use Rattle.std.specs.Prelude.{◌≡◌, List, [], ◌∷◌, ◌++◌, Float}
 use Rattle.numbers.specs.Constants as Constants
 use Rattle.timing.specs.Clock as Clock
@@ -39,8 +39,7 @@ abbrev pub levels_of : List Reply → List Float
 levels_of [] = []
 levels_of (r ∷ rs) = levels r ++ levels_of rs
 
--- What is heard of an accepted list's events is what the envelopes of the voices' histories hand out: the levels that demand 3 says are due for
--- its calls.
+-- An accepted list's events are rendered to what the envelopes of the voices' histories hand out: the levels that demand 3 expects of its calls.
 abbrev pub AsExpected : List Event → Type 0
 AsExpected es =
     let o = opening_of es in

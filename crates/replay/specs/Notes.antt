@@ -1,4 +1,4 @@
--- A note on one envelope, step by step, and what is told of an envelope.
+-- A note on one envelope, step by step, and all readings of an envelope.
 use Rattle.std.specs.Prelude.{ℕ, List, Float}
 use Rattle.timing.specs.declared.Timing.{Timing}
 use Rattle.settings.specs.declared.settings.EnvelopeParams.{EnvelopeParams}

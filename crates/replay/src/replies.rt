@@ -16,7 +16,7 @@ pub(crate) fn high(x: u64) -> u32 {
     (x >> 32) as u32
 }
 
-// What an answer tells of an envelope or a voice.
+// All readings of an envelope or a voice.
 #[derive(Clone, Copy)]
 pub(crate) struct AllReadings {
     pub params: EnvelopeParams,
@@ -36,7 +36,7 @@ pub(crate) fn write_words<const N: usize>(to: &mut impl Write, words: [u32; N]) 
     to.write_all(bytes.as_flattened())
 }
 
-// What is told after the number of a refusal, 22 words with it.
+// The readings after the number of a refusal, 22 words with it.
 pub(crate) fn write_answer(to: &mut impl Write, refusal: u32, t: AllReadings) -> io::Result<()> {
     let p = t.params;
     write_words(
@@ -68,7 +68,7 @@ pub(crate) fn write_answer(to: &mut impl Write, refusal: u32, t: AllReadings) ->
     )
 }
 
-// What is told of an envelope, which is lent to one reading after the other.
+// Those of an envelope, which is lent to one reading after the other.
 fn readings(e: Envelope) -> AllReadings
     ensures { result ≡ Notes.readings e }
 {

@@ -1,5 +1,5 @@
--- What is told of a list is enough to make room for it: an output of n bytes plays it if and only if it holds its frames, and then as many as were
--- told. By induction over the records: the levels so far never fall, so that an output that holds the last number holds each before it.
+-- What `worfelli_list_info` says of a list is enough to make room for it: an output of n bytes plays it if and only if it holds its frames, and then
+-- as many as were said. By induction over the records: the levels so far never fall, so that an output that holds the last number holds each before it.
 use mathlib.Core.Path.{◌≡◌, refl, sym, ap, ◌∙◌}
 use mathlib.Core.Bool.{Bool, true, false}
 use mathlib.Core.List.{List}
@@ -110,11 +110,11 @@ enough l m n z h =
     let F = fits l (length l) (m / 4) (n / 4) start (λ w. refl) (ap (λ (c : Checked). c.refusal) e ∙ z) in
     sym (some l n d) ∙ F.same (omega (arith, ap levels e, h)) ∙ e
 
--- What is told of a list that is accepted, for outputs of n bytes.
+-- What is known of a list that is accepted, for outputs of n bytes.
 pub record Playable (l : List ℕ) (n : ℕ) : Type 0 where
-  -- An output that holds the frames told plays them.
+  -- An output that holds these frames plays them.
   pub plays : (info l).refusal ≡ 0 → levels (info l) ≤ n / 4 → checked l n ≡ info l
-  -- A list that an output plays is told, with as many voices and frames, and the output holds them.
+  -- A list that an output plays has as many voices and frames there, and the output holds them.
   pub agrees : (checked l n).refusal ≡ 0 → info l ≡ checked l n
   pub room : (checked l n).refusal ≡ 0 → levels (info l) ≤ n / 4
 

@@ -39,7 +39,7 @@ abbrev pub named_only : List HostCall → List Call
 named_only [] = []
 named_only (x ∷ xs) = cond x.named (x.call ∷ named_only xs) (named_only xs)
 
--- What a host hears: the bank is the one of demand 3 after the named calls, so that each voice is in the state of the envelope of its history.
+-- What a host's list leaves: the bank is the one of demand 3 after the named calls, so that each voice is in the state of the envelope of its history.
 pub record LiveList (o : Opening) (xs : List HostCall) : Type 0 where
   pub bank : after (Banks.new o).bank xs ≡ bank_after o (named_only xs)
   pub envelope : (v : ℕ) → v < voices_of o → Banks.envelope (after (Banks.new o).bank xs) v ≡ envelope_of (history_of o (named_only xs) v)

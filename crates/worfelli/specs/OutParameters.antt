@@ -1,4 +1,4 @@
--- What a reading over C answers, and what it leaves behind the pointer that it is given: the value told, or what was there if it is refused.
+-- What a reading over C returns, and its out-parameter, behind the pointer that it is given: the value, or what was there if it is refused.
 use Rattle.std.specs.Prelude.{ℕ, List, Float, Result, Ok, Err}
 use Rattle.settings.specs.declared.refusals.Refusal.{Refusal}
 use Rattle.memory.specs.Memory.{stage_code, flag_code}

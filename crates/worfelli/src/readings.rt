@@ -11,7 +11,7 @@ use crate::coded;
 use bank::Bank;
 use settings::Refusal;
 
-// What a reading told goes to `place`, unless it was refused; the answer is C's: 0 or the refusal's number.
+// Puts a reading's value at `place`, unless it was refused, and answers C's number: 0, or the refusal's.
 fn put<T: Copy>(reading: Result<T, Refusal>, place: &mut T) -> u32
     ensures refusal { result ≡ Refusals.number_of reading }
     ensures written { place.new ≡ OutParameters.or reading place.old }

@@ -1,4 +1,4 @@
--- `enter`: the stage that `find` ensures is held or begun, by the same test as in the definition.
+-- `enter`: the stage that `find` ensures is begun, untimed or timed, by the same test as in the definition.
 use Rattle.lane.specs.Planning.{enter, settle}
 use Rattle.lane.proofs.lanes.Lane.enter.Goals as goal
 
