@@ -94,7 +94,8 @@ def _run(path, given):
 
 
 def _cut_short(path):
-    # A write that fails ends the program with status 1; no theorem speaks of what is printed, so that is counted too.
+    # A write that fails ends the program with status 1; no theorem speaks of what a system makes of a write, so that
+    # is counted too.
     return EngineError(f"{path.name} did not write its whole answer")
 
 

@@ -1,3 +1,3 @@
--- Laws of the format: numbers in bytes, and what a reading of a record says.
-mod Numbers
+-- Laws of the format: numbers in bytes, and what a parsed record says.
+pub mod Numbers
 pub mod Records

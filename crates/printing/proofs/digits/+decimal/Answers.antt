@@ -1,0 +1,12 @@
+-- `decimal`: the number's higher digits, then the last one.
+use Rattle.std.proofs.Common.{sym, arith}
+use Rattle.std.proofs.lemmas.Fmt.{decimal_step}
+use Rattle.printing.proofs.Numerals.{last_alone}
+use Rattle.printing.proofs.Writing.{and_then, renamed}
+use Rattle.printing.proofs.digits.+decimal.Goals as goal
+
+pub returns-then-n-lt10 : goal.returns-then-n-lt10
+returns-then-n-lt10 t c = renamed (sym (last_alone c.args.n (omega arith))) c.put.ensures
+
+pub returns : goal.returns
+returns t c = renamed (sym (decimal_step c.args.n (omega arith) (omega arith))) (and_then c.decimal-at.ensures c.put-2.ensures)

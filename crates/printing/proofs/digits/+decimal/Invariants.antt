@@ -1,0 +1,5 @@
+-- `decimal`: the number shrinks.
+use Rattle.printing.proofs.digits.+decimal.Given as goal
+
+abbrev pub decreases-decimal : goal.decreases-decimal
+decreases-decimal l = l.n

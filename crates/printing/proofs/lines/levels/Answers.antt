@@ -1,0 +1,10 @@
+-- `levels`: voice after voice. Invariant: the levels before v are put.
+use Rattle.std.proofs.Common.{ap}
+use Rattle.printing.specs.Lines.{level}
+use Rattle.printing.proofs.Writing.{and_then, renamed, each-more}
+use Rattle.printing.proofs.lines.levels.Goals as goal
+
+pub loop-v-preserved : goal.loop-v-preserved
+loop-v-preserved c =
+    let l = c.loop-v in
+    renamed (each-more l.v _ (ap level c.bits.ensures)) (and_then l.invariant c.level-at.ensures)

@@ -1,0 +1,99 @@
+// The lines that the program `play` prints, and all of them for a list.
+ghost use Rattle.std.specs.Prelude.{◌≡◌, ℕ, ◌+◌, ◌*◌, ◌/◌, ◌≤◌, length};
+ghost use Rattle.numbers.specs.Bytes as Bytes;
+ghost use Rattle.settings.specs.Refusals as Refusals;
+ghost use Rattle.printing.specs.Lines as Lines;
+ghost use Rattle.printing.specs.Text as Text;
+
+use crate::digits::{decimal, hexadecimal};
+use crate::text::put;
+use crate::{LEVELS, LONGEST, ROOM};
+use settings::Refusal;
+
+// The bits of level v, whose lowest byte comes first.
+#[tactic(auto, using(events::proofs::Numbers::four_bytes))]
+fn bits(bytes: &[u8], v: usize) -> u32
+    requires { 4 * v + 4 ≤ length bytes.now }
+    ensures { result ≡ Bytes.number 4 bytes.now (4 * v) }
+{
+    let at = 4 * v;
+    u32::from_le_bytes([bytes[at], bytes[at + 1], bytes[at + 2], bytes[at + 3]])
+}
+
+// A space and the bits of a level.
+fn level(to: &mut [u8], bits: u32) -> usize
+    ensures { Text.Put (Lines.level bits) to.old to.new result }
+{
+    let at = put(to, b" ");
+    at + put(&mut to[at..], &hexadecimal(bits))
+}
+
+// The levels of a frame, four bytes to each.
+fn levels(to: &mut [u8], bytes: &[u8]) -> usize
+    ensures { Text.Put (Text.each (length bytes.now / 4) (λ v. Lines.level (Bytes.number 4 bytes.now (4 * v)))) to.old to.new result }
+{
+    let mut at = 0;
+    for v in 0..bytes.len() / 4 {
+        at += level(&mut to[at..], bits(bytes, v));
+    }
+    at
+}
+
+// The line of a frame: its number and its voices' levels, four bytes to each.
+pub fn frame(to: &mut [u8], number: u64, bytes: &[u8]) -> usize
+    ensures { Text.Put (Lines.frame number (length bytes.now / 4) (λ v. Bytes.number 4 bytes.now (4 * v))) to.old to.new result }
+{
+    let mut at = decimal(to, number);
+    at += levels(&mut to[at..], bytes);
+    at + put(&mut to[at..], b"\n")
+}
+
+// The line of a refused list: the refusal's number, and the first byte of the record.
+pub fn refusal(to: &mut [u8], refusal: Refusal, place: u64) -> usize
+    ensures { Text.Put (Lines.refusal (Refusals.number refusal) place) to.old to.new result }
+{
+    let mut at = put(to, b"refused ");
+    at += decimal(&mut to[at..], refusal.number() as u64);
+    at += put(&mut to[at..], b" at ");
+    at += decimal(&mut to[at..], place);
+    at + put(&mut to[at..], b"\n")
+}
+
+// The lines of so many frames, whose rows stand in `out` one after the other.
+fn frames(to: &mut [u8], out: &[u8], frames: usize, voices: usize, stride: usize) -> usize
+    requires { (voices ≤ stride) × (4 * (frames * stride) ≤ length out.now) }
+    ensures { Text.Put (Lines.frames (λ i. Bytes.number 4 out.now (4 * i)) voices stride frames) to.old to.new result }
+{
+    let mut at = 0;
+    for k in 0..frames {
+        let row = &out[4 * (k * stride)..];
+        at += frame(&mut to[at..], k as u64, &row[..4 * voices]);
+    }
+    at
+}
+
+// All that is printed for a list: its frames or its refusal. There is room for it in a slice of ROOM bytes.
+#[tactic(auto, using(crate::proofs::Room::fits))]
+pub fn print(to: &mut [u8], list: &[u8]) -> usize
+    ensures text { Text.Put (Lines.printed list.now) to.old to.new result }
+    ensures room { length (Lines.printed list.now) ≤ ROOM }
+{
+    if list.len() > LONGEST {
+        return put(to, b"too long\n");
+    }
+    let mut out = [0; 4 * LEVELS];
+    let checked = checking::check(list, out.len());
+    let passed = checked.passed;
+    if let Err(refused) = checked.verdict {
+        return refusal(to, refused, passed.at as u64);
+    }
+    player::play(list, &mut out);
+    let voices = passed.known.voices;
+    frames(
+        to,
+        &out,
+        passed.frames as usize,
+        voices,
+        bank::stride_of(voices),
+    )
+}
