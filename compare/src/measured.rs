@@ -2,7 +2,8 @@
 //! [`asked`] is what is asked, [`through_c`] a bank over C, [`through_rust`] one
 //! of the crate of hosts/rust, [`reference`](mod@reference) the Rust's own bank
 //! and [`single`] its single envelope. The loops are the host's own, in C for C,
-//! and none of them is inlined into the measuring.
+//! with the calls in them inlined as far as they are Rust; none of the loops is
+//! inlined into the measuring.
 
 pub mod asked;
 pub mod reference;

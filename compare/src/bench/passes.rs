@@ -91,30 +91,43 @@ pub fn timed(opening: Opening, call: Call) -> Three {
     timed_beside::<envelope::EnvelopeBank>(opening, call)
 }
 
-/// The median nanoseconds of one call, on all three sides in turns. They have to
-/// answer the same.
+/// The median nanoseconds of one call, on all three sides in turns and with one
+/// output. They have to answer the same.
 pub fn timed_beside<R: Measured>(opening: Opening, call: Call) -> Three {
-    let pass = || {
-        [
-            once::<LiveBank>(opening, call),
-            once::<worfelli::EnvelopeBank>(opening, call),
-            once::<R>(opening, call),
-        ]
-    };
-    let [c, through_crate, rust] = pass().map(|(_, answer)| answer);
+    let mut out = vec![0.0; call.frames() * LiveBank::levels(opening.voices)];
+    let rust = answer::<R>(opening, call, &mut out);
+    let c = answer::<LiveBank>(opening, call, &mut out);
     assert_eq!(c, rust, "{call:?} over C");
+    let through_crate = answer::<worfelli::EnvelopeBank>(opening, call, &mut out);
     assert_eq!(through_crate, rust, "{call:?} over the crate");
-    medians(|| pass().map(|(nanoseconds, _)| nanoseconds))
-        .map(|nanoseconds| nanoseconds / f64::from(call.times(opening.voices)))
+    medians(|| {
+        [
+            once::<LiveBank>(opening, call, &mut out).0,
+            once::<worfelli::EnvelopeBank>(opening, call, &mut out).0,
+            once::<R>(opening, call, &mut out).0,
+        ]
+    })
+    .map(|nanoseconds| nanoseconds / f64::from(call.times(opening.voices)))
 }
 
-/// One pass on a bank of its own: its nanoseconds, and an answer by which the
-/// sides can be held against each other, the voices' levels of its last block
-/// among others.
-fn once<M: Measured>(opening: Opening, call: Call) -> (f64, Vec<u64>) {
+/// What a pass comes to: the voices' levels in the output, and the sum of what
+/// was read.
+fn answer<M: Measured>(opening: Opening, call: Call, out: &mut [f32]) -> Vec<u64> {
+    out.fill(2.0);
+    let (_, sum) = once::<M>(opening, call, out);
+    let frames = out.chunks_exact(M::levels(opening.voices));
+    let levels = frames.take(call.frames());
+    let levels = levels.flat_map(|frame| frame.iter().take(opening.voices));
+    let bits = levels.map(|level| level.to_bits().into());
+    bits.chain([sum]).collect()
+}
+
+/// One pass, on a bank of its own, and into the first frames of `out`: its
+/// nanoseconds, and the sum of what was read. A call that draws nothing is
+/// followed by a frame, outside the time.
+fn once<M: Measured>(opening: Opening, call: Call, out: &mut [f32]) -> (f64, u64) {
     let (opening, times) = (black_box(opening), call.times(opening.voices));
-    // Written before, so that its memory is there when the time begins.
-    let mut out = vec![2.0; call.frames() * M::levels(opening.voices)];
+    let out = black_box(&mut out[..call.frames() * M::levels(opening.voices)]);
     let (mut sum, mut fresh) = (0, None);
     let mut measured = M::triggered(opening);
     let start = Instant::now();
@@ -122,20 +135,15 @@ fn once<M: Measured>(opening: Opening, call: Call) -> (f64, Vec<u64>) {
         Call::Open => measured.opens(opening, times),
         Call::Of(kind) => measured.calls(opening.sound, kind, times),
         Call::Read(query) => sum = measured.readings(query, times),
-        Call::Block(_) => measured.blocks(black_box(&mut out), times),
-        Call::Take(_) => {
-            let fresh = fresh.insert(M::triggered(opening));
-            fresh.blocks(black_box(&mut out), times);
-        }
+        Call::Block(_) => measured.blocks(out, times),
+        Call::Take(_) => fresh.insert(M::triggered(opening)).blocks(out, times),
     }
     let nanoseconds = start.elapsed().as_nanos() as f64;
     if !matches!(call, Call::Block(_) | Call::Take(_)) {
-        measured.blocks(&mut out, 1);
+        measured.blocks(out, 1);
     }
-    let frames = out.chunks_exact(M::levels(opening.voices));
-    let levels = frames.flat_map(|frame| frame.iter().take(opening.voices));
-    let bits = levels.map(|level| level.to_bits().into());
-    (nanoseconds, bits.chain([black_box(sum)]).collect())
+    black_box(out);
+    (nanoseconds, black_box(sum))
 }
 
 /// Prints the head of a table whose rows begin with what they are about, and

@@ -34,6 +34,7 @@ impl Measured for EnvelopeBank {
     }
 }
 
+#[inline(always)]
 fn call(bank: &mut EnvelopeBank, sound: Sound, kind: Kind, voice: usize) {
     match kind {
         Kind::Trigger => bank.trigger(voice, Trigger::New),
@@ -64,6 +65,7 @@ fn call(bank: &mut EnvelopeBank, sound: Sound, kind: Kind, voice: usize) {
 }
 
 /// Tail and lead are not the Rust's, but the reference's.
+#[inline(always)]
 fn read(bank: &EnvelopeBank, query: Query, voice: usize) -> u64 {
     match query {
         Query::Params => bank.params(voice).decay.to_bits().into(),

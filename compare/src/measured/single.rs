@@ -43,6 +43,7 @@ impl Measured for Envelope {
 }
 
 /// All voices are the one, which has no other to join.
+#[inline(always)]
 fn call(envelope: &mut Envelope, sound: Sound, kind: Kind) {
     match kind {
         Kind::Trigger => envelope.trigger(Trigger::New),
@@ -68,6 +69,7 @@ fn call(envelope: &mut Envelope, sound: Sound, kind: Kind) {
 }
 
 /// Tail and lead are not the Rust's, but the reference's.
+#[inline(always)]
 fn read(envelope: &Envelope, query: Query) -> u64 {
     match query {
         Query::Params => envelope.params().decay.to_bits().into(),

@@ -50,6 +50,7 @@ struct CrateSound {
     other_timing: worfelli::Timing,
 }
 
+#[inline(always)]
 fn call(
     bank: &mut EnvelopeBank,
     sound: &CrateSound,
@@ -85,6 +86,7 @@ fn call(
     }
 }
 
+#[inline(always)]
 fn read(bank: &EnvelopeBank, query: Query, voice: usize) -> Result<u64, Refusal> {
     Ok(match query {
         Query::Params => bank.params(voice)?.decay.to_bits().into(),
