@@ -25,7 +25,7 @@ fn read_full(from: &mut impl Read, bytes: &mut [u8]) -> io::Result<usize>
 
 fn main(rt: HostRuntime) -> io::Result<()> {
     // A byte more than the longest list shows that there is more.
-    let mut list = [0; printing::LONGEST + 1];
+    let mut list = [0; printing::MOST_BYTES + 1];
     let len = read_full(&mut rt.stdin(), &mut list)?;
     let mut text = [0; printing::ROOM];
     let written = printing::print(&mut text, &list[..len]);

@@ -10,7 +10,7 @@ use Rattle.rows.proofs.RowsDrawn.{row_fits}
 use Rattle.bank.specs.Banks.{bytes}
 use Rattle.bank.proofs.Bytes.{length-bytes, bytes-at}
 use Rattle.printing.specs.Text.{each}
-use Rattle.printing.specs.Lines.{level, frame, frames, bits_of}
+use Rattle.printing.specs.Lines.{level, frame, frames, bits_in, bits_of}
 use Rattle.printing.proofs.Numerals.{same-digits}
 
 -- The same bytes are the same number.
@@ -48,7 +48,7 @@ module _ (out : List ℕ) (k s voices frames : ℕ) (before : k < frames) (withi
       ap (λ (l : List ℕ). length (take (4 * voices) l)) rest
       ∙ length-take-le (4 * voices) (drop at out) (omega (arith, inside, length-drop at out))
 
-  same_bits : (v : ℕ) → v < voices → number 4 row (4 * v) ≡ number 4 out (4 * (k * s + v))
+  same_bits : (v : ℕ) → v < voices → bits_in row v ≡ bits_in out (k * s + v)
   same_bits v h =
       let e : at + 4 * v ≡ 4 * (k * s + v) = omega arith in
       number-same 4 row out (4 * v) (4 * (k * s + v))
@@ -59,10 +59,10 @@ module _ (out : List ℕ) (k s voices frames : ℕ) (before : k < frames) (withi
       ∙ get_or-drop at out (4 * v + p) 0
       ∙ ap (λ (j : ℕ). get_or out j 0) i)
 
-  pub row-frame : frame k (length row / 4) (λ v. number 4 row (4 * v)) ≡ frame k voices (λ v. number 4 out (4 * (k * s + v)))
+  pub row-frame : frame k (length row / 4) (bits_in row) ≡ frame k voices (λ v. bits_in out (k * s + v))
   row-frame =
       let many : length row / 4 ≡ voices = omega (arith, row_long) in
-      ap (λ (n : ℕ). frame k n (λ v. number 4 row (4 * v))) many
+      ap (λ (n : ℕ). frame k n (bits_in row)) many
       ∙ ap (λ (x : List ℕ). decimal k ++ x ++ codes "\n") (each-same voices _ _ (λ v h. ap level (same_bits v h)))
 
 -- ---- the levels of a list
@@ -75,7 +75,7 @@ frames-same voices stride n f g w h =
     (each-same voices _ _ (λ v q. h (k * stride + v) (omega (arith, q, w, row_fits k n stride p)))))
 
 -- The bytes of levels look as the levels do, whatever is past them.
-pub bytes-shown : (xs : List Float) (rest : List ℕ) (i : ℕ) → i < length xs → level (number 4 (bytes xs ++ rest) (4 * i)) ≡ level (bits_of xs i)
+pub bytes-shown : (xs : List Float) (rest : List ℕ) (i : ℕ) → i < length xs → level (bits_in (bytes xs ++ rest) i) ≡ level (bits_of xs i)
 bytes-shown xs rest i h =
     ap (λ (x : List ℕ). codes " " ++ x)
     (same-digits 4 (bits_of xs i) (bytes xs ++ rest) (4 * i)

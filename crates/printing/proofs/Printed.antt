@@ -1,7 +1,6 @@
 -- What is printed of a list, by its length and by its check.
 use Rattle.std.proofs.Common.{◌≡◌, ◌≢◌, ℕ, ◌*◌, ◌<◌, ◌≤◌, List, ◌++◌, codes, length, drop, sym, ap, ◌∙◌, arith}
 use borrow.Author.Tests.{lt-ltb, le-ltb}
-use Rattle.numbers.specs.Bytes.{number}
 use Rattle.rows.specs.Strides.{stride_of}
 use Rattle.bank.specs.Calls.{if_accepted}
 use Rattle.bank.specs.Banks.{bytes}
@@ -10,7 +9,7 @@ use Rattle.bank.proofs.Accepted.{if_refused, if_accepted_lem}
 use Rattle.checking.specs.Checks.{Checked, checked}
 use Rattle.player.specs.Playing.{events, unopened, rendered, output}
 use Rattle.player.proofs.Written.{frames-written}
-use Rattle.printing.specs.Lines.{frames, refusal, bits_of, played, printed}
+use Rattle.printing.specs.Lines.{frames, refusal, bits_in, bits_of, played, printed}
 use Rattle.printing.proofs.Levels.{frames-same, bytes-shown}
 
 pub too-long : (l : List ℕ) → 16384 < length l → codes "too long\n" ≡ printed l
@@ -30,7 +29,7 @@ module _ (l : List ℕ) (short : length l ≤ 16384) (c : Checked) (is : c ≡ c
 
   -- The lines of what the player leaves in an output are those of what is heard.
   pub accepted : (out₀ out : List ℕ) → length out₀ ≡ 4 * 16384 → out ≡ output l out₀ → c.refusal ≡ 0
-      → frames (λ i. number 4 out (4 * i)) c.known.voices (stride_of c.known.voices) c.frames ≡ printed l
+      → frames (bits_in out) c.known.voices (stride_of c.known.voices) c.frames ≡ printed l
   unfolding output
   accepted out₀ out n e z =
       let xs = rendered unopened (events l) in
@@ -42,6 +41,6 @@ module _ (l : List ℕ) (short : length l ≤ 16384) (c : Checked) (is : c ≡ c
       in
       let v = c.known.voices in
       let bits = λ (i : ℕ). bytes-shown xs rest i in
-      ap (λ (o : List ℕ). frames (λ i. number 4 o (4 * i)) v (stride_of v) c.frames) held
+      ap (λ (o : List ℕ). frames (bits_in o) v (stride_of v) c.frames) held
       ∙ frames-same v (stride_of v) c.frames _ (bits_of xs) (stride_holds v).0 (λ i h. bits i (omega (arith, h, long)))
       ∙ sym (all c (sym is) ∙ if_accepted_lem c.refusal _ _ z)

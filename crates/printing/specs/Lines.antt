@@ -3,6 +3,7 @@ use Rattle.std.specs.Prelude.{ℕ, ◌+◌, ◌*◌, cond, List, ◌++◌, codes
 use Rattle.std.specs.Float.{nan, binary32}
 use Rattle.std.specs.Float.Ieee.{to_bits}
 use Rattle.std.specs.Fmt.{decimal}
+use Rattle.numbers.specs.Bytes.{number}
 use Rattle.rows.specs.Strides.{stride_of}
 use Rattle.bank.specs.Calls.{if_accepted}
 use Rattle.checking.specs.Checks.{checked}
@@ -26,9 +27,13 @@ refusal n place = codes "refused " ++ decimal n ++ codes " at " ++ decimal place
 abbrev pub frames : (ℕ → ℕ) → ℕ → ℕ → ℕ → List ℕ
 frames bits voices stride n = each n (λ k. frame k voices (λ v. bits (k * stride + v)))
 
+-- The bits of level i in bytes, four to a level, the lowest first.
+abbrev pub bits_in : List ℕ → ℕ → ℕ
+bits_in bytes i = number 4 bytes (4 * i)
+
 -- ---- all that is printed
 
--- The bits of level i.
+-- The bits of level i of those that are heard.
 abbrev pub bits_of : List Float → ℕ → ℕ
 bits_of levels i = to_bits binary32 (get_or levels i nan)
 
@@ -38,6 +43,6 @@ played l =
     let c = checked l (4 * 16384) in
     if_accepted c.refusal (frames (bits_of (rendered unopened (events l))) c.known.voices (stride_of c.known.voices) c.frames) (refusal c.refusal c.at)
 
--- A list of up to 16,384 bytes.
+-- A list, which has up to 16,384 bytes.
 unfoldable pub printed : List ℕ → List ℕ
 printed l = cond (ltb 16384 (length l)) (codes "too long\n") (played l)

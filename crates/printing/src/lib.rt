@@ -9,10 +9,10 @@ mod text;
 pub use digits::{decimal, hexadecimal};
 pub use lines::{frame, print, refusal};
 
-// The longest list that is played, in bytes, and the levels that there is room for.
-pub const LONGEST: usize = 16384;
+// The longest list that is played, in bytes, and the levels that it is played into.
+pub const MOST_BYTES: usize = 16384;
 
-const LEVELS: usize = 16384;
+const MOST_LEVELS: usize = 16384;
 
-// The longest text that is printed, in bytes: 1,024 frames of 16 voices.
+// The bytes of the longest text: 1,024 frames of 16 voices.
 pub const ROOM: usize = 151466;

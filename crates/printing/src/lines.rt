@@ -1,20 +1,19 @@
 // The lines that the program `play` prints, and all of them for a list.
 ghost use Rattle.std.specs.Prelude.{◌≡◌, ℕ, ◌+◌, ◌*◌, ◌/◌, ◌≤◌, length};
-ghost use Rattle.numbers.specs.Bytes as Bytes;
 ghost use Rattle.settings.specs.Refusals as Refusals;
 ghost use Rattle.printing.specs.Lines as Lines;
 ghost use Rattle.printing.specs.Text as Text;
 
 use crate::digits::{decimal, hexadecimal};
 use crate::text::put;
-use crate::{LEVELS, LONGEST, ROOM};
+use crate::{MOST_BYTES, MOST_LEVELS, ROOM};
 use settings::Refusal;
 
 // The bits of level v, whose lowest byte comes first.
 #[tactic(auto, using(events::proofs::Numbers::four_bytes))]
 fn bits(bytes: &[u8], v: usize) -> u32
     requires { 4 * v + 4 ≤ length bytes.now }
-    ensures { result ≡ Bytes.number 4 bytes.now (4 * v) }
+    ensures { result ≡ Lines.bits_in bytes.now v }
 {
     let at = 4 * v;
     u32::from_le_bytes([bytes[at], bytes[at + 1], bytes[at + 2], bytes[at + 3]])
@@ -30,7 +29,7 @@ fn level(to: &mut [u8], bits: u32) -> usize
 
 // The levels of a frame, four bytes to each.
 fn levels(to: &mut [u8], bytes: &[u8]) -> usize
-    ensures { Text.Put (Text.each (length bytes.now / 4) (λ v. Lines.level (Bytes.number 4 bytes.now (4 * v)))) to.old to.new result }
+    ensures { Text.Put (Text.each (length bytes.now / 4) (λ v. Lines.level (Lines.bits_in bytes.now v))) to.old to.new result }
 {
     let mut at = 0;
     for v in 0..bytes.len() / 4 {
@@ -41,7 +40,7 @@ fn levels(to: &mut [u8], bytes: &[u8]) -> usize
 
 // The line of a frame: its number and its voices' levels, four bytes to each.
 pub fn frame(to: &mut [u8], number: u64, bytes: &[u8]) -> usize
-    ensures { Text.Put (Lines.frame number (length bytes.now / 4) (λ v. Bytes.number 4 bytes.now (4 * v))) to.old to.new result }
+    ensures { Text.Put (Lines.frame number (length bytes.now / 4) (Lines.bits_in bytes.now)) to.old to.new result }
 {
     let mut at = decimal(to, number);
     at += levels(&mut to[at..], bytes);
@@ -62,7 +61,7 @@ pub fn refusal(to: &mut [u8], refusal: Refusal, place: u64) -> usize
 // The lines of so many frames, whose rows stand in `out` one after the other.
 fn frames(to: &mut [u8], out: &[u8], frames: usize, voices: usize, stride: usize) -> usize
     requires { (voices ≤ stride) × (4 * (frames * stride) ≤ length out.now) }
-    ensures { Text.Put (Lines.frames (λ i. Bytes.number 4 out.now (4 * i)) voices stride frames) to.old to.new result }
+    ensures { Text.Put (Lines.frames (Lines.bits_in out.now) voices stride frames) to.old to.new result }
 {
     let mut at = 0;
     for k in 0..frames {
@@ -78,10 +77,10 @@ pub fn print(to: &mut [u8], list: &[u8]) -> usize
     ensures text { Text.Put (Lines.printed list.now) to.old to.new result }
     ensures room { length (Lines.printed list.now) ≤ ROOM }
 {
-    if list.len() > LONGEST {
+    if list.len() > MOST_BYTES {
         return put(to, b"too long\n");
     }
-    let mut out = [0; 4 * LEVELS];
+    let mut out = [0; 4 * MOST_LEVELS];
     let checked = checking::check(list, out.len());
     let passed = checked.passed;
     if let Err(refused) = checked.verdict {

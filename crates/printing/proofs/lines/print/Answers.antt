@@ -1,6 +1,5 @@
 -- `print`: by the list's length, then by its check. The voices of a checked list are few, and the output holds its frames (`checked-has_room`).
 use Rattle.std.proofs.Common.{◌≡◌, ℕ, ◌*◌, min, ap, ◌∙◌, refl, subst, sym, arith}
-use Rattle.numbers.specs.Bytes as Bytes
 use Rattle.rows.specs.Strides.{stride_of}
 use Rattle.bank.proofs.Frames.{stride_holds}
 use Rattle.settings.specs.Refusals.{number, number_of}
@@ -13,8 +12,8 @@ use Rattle.printing.proofs.Printed.{too-long, refused, accepted}
 use Rattle.printing.proofs.lines.print.Goals as goal
 use Rattle.printing.proofs.lines.print.Goals.{After-stride_of}
 
-pub returns-then-list-gt-LONGEST-clause-text : goal.returns-then-list-gt-LONGEST-clause-text
-returns-then-list-gt-LONGEST-clause-text c = renamed (too-long c.args.list.now (omega arith)) c.put.ensures
+pub returns-then-list-gt-MOST_BYTES-clause-text : goal.returns-then-list-gt-MOST_BYTES-clause-text
+returns-then-list-gt-MOST_BYTES-clause-text c = renamed (too-long c.args.list.now (omega arith)) c.put.ensures
 
 pub returns-in-Err-clause-text : goal.returns-in-Err-clause-text
 returns-in-Err-clause-text c =
@@ -47,6 +46,6 @@ returns-clause-text c =
     let s = seen q.result.verdict q.result.passed in
     let o = (goal.at.returns-clause-text c).After-stride_of in
     renamed
-    (ap (λ (w : ℕ). Lines.frames (λ i. Bytes.number 4 c.play.new.out (4 * i)) s.known.voices w s.frames) (stride o)
+    (ap (λ (w : ℕ). Lines.frames (Lines.bits_in c.play.new.out) s.known.voices w s.frames) (stride o)
     ∙ accepted c.args.list.now (omega arith) s q.ensures _ c.play.new.out refl c.play.ensures.output (ap number_of c.in_default.is))
     c.frames.ensures
