@@ -22,7 +22,7 @@ fn settings(attack: f32, decay: f32, sustain: f32) -> EnvelopeParams
 }
 
 // The first levels of a new note on a fresh envelope of these settings. Answers the fresh call's refusal;
-// refused, the note is played on the blank envelope.
+// refused, the note is played on the fallback.
 #[unsafe(no_mangle)]
 pub extern "C" fn worfelli_note(
     sample_rate: f64,

@@ -27,7 +27,7 @@ module _ (l : List ℕ) (short : length l ≤ 16384) (c : Checked) (is : c ≡ c
   pub refused : c.refusal ≢ 0 → refusal c.refusal c.at ≡ printed l
   refused d = sym (all c (sym is) ∙ if_refused c.refusal _ _ d)
 
-  -- The lines of what the player leaves in an output are those of what is heard.
+  -- The lines of what the player leaves in an output are those of what is rendered.
   pub accepted : (out₀ out : List ℕ) → length out₀ ≡ 4 * 16384 → out ≡ output l out₀ → c.refusal ≡ 0
       → frames (bits_in out) c.known.voices (stride_of c.known.voices) c.frames ≡ printed l
   unfolding output

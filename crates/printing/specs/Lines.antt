@@ -33,7 +33,7 @@ bits_in bytes i = number 4 bytes (4 * i)
 
 -- ---- all that is printed
 
--- The bits of level i of those that are heard.
+-- The bits of level i of those that are rendered.
 abbrev pub bits_of : List Float → ℕ → ℕ
 bits_of levels i = to_bits binary32 (get_or levels i nan)
 

@@ -129,7 +129,7 @@ impl Call {
         }
     }
 
-    // Makes the call on the envelope. In a refused fresh one's place the blank one stands; refused
+    // Makes the call on the envelope. In a refused fresh one's place the fallback stands; refused
     // otherwise, nothing changes. Frames are drawn apart.
     pub(crate) fn make(&self, e: &mut Envelope) -> Result<(), Refusal> {
         match self.tag() {
