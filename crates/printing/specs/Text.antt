@@ -1,11 +1,13 @@
 -- Text in a lent slice.
-use Rattle.std.specs.Prelude.{◌≡◌, ℕ, zero, suc, List, [], ◌++◌, length, take, drop, min}
+use Rattle.std.specs.Prelude.{ℕ, zero, suc, List, [], ◌++◌, length, take, drop, min}
 
--- A text that was put into a slice from its first byte on: what finds no room is left out, and what is past the text is kept. n is how many of its
--- bytes the slice holds.
-pub record Put (text old new : List ℕ) (n : ℕ) : Type 0 where
-  pub bytes : new ≡ take (length old) text ++ drop (length text) old
-  pub count : n ≡ min (length text) (length old)
+-- What a slice holds after a text was put into it from its first byte on: what finds no room is left out, and what is past the text is kept.
+unfoldable pub put : List ℕ → List ℕ → List ℕ
+put text old = take (length old) text ++ drop (length text) old
+
+-- How many bytes of the text it holds then.
+abbrev pub bytes_put : List ℕ → List ℕ → ℕ
+bytes_put text old = min (length text) (length old)
 
 -- The parts 0 to n - 1, one after the other.
 abbrev pub each : ℕ → (ℕ → List ℕ) → List ℕ

@@ -10,7 +10,8 @@ const DIGITS: [u8; 16] = *b"0123456789abcdef";
 
 // A number in base ten: its higher digits, then the last one.
 pub fn decimal(to: &mut [u8], n: u64) -> usize
-    ensures { Text.Put (decimal n) to.old to.new result }
+    ensures bytes { to.new ≡ Text.put (decimal n) to.old }
+    ensures count { result ≡ Text.bytes_put (decimal n) to.old }
 {
     let last = [b'0' + (n % 10) as u8];
     if n < 10 {

@@ -21,15 +21,18 @@ fn bits(bytes: &[u8], v: usize) -> u32
 
 // A space and the bits of a level.
 fn level(to: &mut [u8], bits: u32) -> usize
-    ensures { Text.Put (Lines.level bits) to.old to.new result }
+    ensures bytes { to.new ≡ Text.put (Lines.level bits) to.old }
+    ensures count { result ≡ Text.bytes_put (Lines.level bits) to.old }
 {
     let at = put(to, b" ");
     at + put(&mut to[at..], &hexadecimal(bits))
 }
 
 // The levels of a frame, four bytes to each.
+#[tactic(auto, unfolding(crate::specs::Text::put))]
 fn levels(to: &mut [u8], bytes: &[u8]) -> usize
-    ensures { Text.Put (Text.each (length bytes.now / 4) (λ v. Lines.level (Lines.bits_in bytes.now v))) to.old to.new result }
+    ensures bytes { to.new ≡ Text.put (Text.each (length bytes.now / 4) (λ v. Lines.level (Lines.bits_in bytes.now v))) to.old }
+    ensures count { result ≡ Text.bytes_put (Text.each (length bytes.now / 4) (λ v. Lines.level (Lines.bits_in bytes.now v))) to.old }
 {
     let mut at = 0;
     for v in 0..bytes.len() / 4 {
@@ -40,7 +43,8 @@ fn levels(to: &mut [u8], bytes: &[u8]) -> usize
 
 // The line of a frame: its number and its voices' levels, four bytes to each.
 pub fn frame(to: &mut [u8], number: u64, bytes: &[u8]) -> usize
-    ensures { Text.Put (Lines.frame number (length bytes.now / 4) (Lines.bits_in bytes.now)) to.old to.new result }
+    ensures bytes { to.new ≡ Text.put (Lines.frame number (length bytes.now / 4) (Lines.bits_in bytes.now)) to.old }
+    ensures count { result ≡ Text.bytes_put (Lines.frame number (length bytes.now / 4) (Lines.bits_in bytes.now)) to.old }
 {
     let mut at = decimal(to, number);
     at += levels(&mut to[at..], bytes);
@@ -49,7 +53,8 @@ pub fn frame(to: &mut [u8], number: u64, bytes: &[u8]) -> usize
 
 // The line of a refused list: the refusal's number, and the first byte of the record.
 pub fn refusal(to: &mut [u8], refusal: Refusal, place: u64) -> usize
-    ensures { Text.Put (Lines.refusal (Refusals.number refusal) place) to.old to.new result }
+    ensures bytes { to.new ≡ Text.put (Lines.refusal (Refusals.number refusal) place) to.old }
+    ensures count { result ≡ Text.bytes_put (Lines.refusal (Refusals.number refusal) place) to.old }
 {
     let mut at = put(to, b"refused ");
     at += decimal(&mut to[at..], refusal.number() as u64);
@@ -59,9 +64,11 @@ pub fn refusal(to: &mut [u8], refusal: Refusal, place: u64) -> usize
 }
 
 // The lines of so many frames, whose rows stand in `out` one after the other.
+#[tactic(auto, unfolding(crate::specs::Text::put))]
 fn frames(to: &mut [u8], out: &[u8], frames: usize, voices: usize, stride: usize) -> usize
     requires { (voices ≤ stride) × (4 * (frames * stride) ≤ length out.now) }
-    ensures { Text.Put (Lines.frames (Lines.bits_in out.now) voices stride frames) to.old to.new result }
+    ensures bytes { to.new ≡ Text.put (Lines.frames (Lines.bits_in out.now) voices stride frames) to.old }
+    ensures count { result ≡ Text.bytes_put (Lines.frames (Lines.bits_in out.now) voices stride frames) to.old }
 {
     let mut at = 0;
     for k in 0..frames {
@@ -72,9 +79,9 @@ fn frames(to: &mut [u8], out: &[u8], frames: usize, voices: usize, stride: usize
 }
 
 // All that is printed for a list: its frames or its refusal. There is room for it in a slice of ROOM bytes.
-#[tactic(auto, using(crate::proofs::Room::fits))]
 pub fn print(to: &mut [u8], list: &[u8]) -> usize
-    ensures text { Text.Put (Lines.printed list.now) to.old to.new result }
+    ensures bytes { to.new ≡ Text.put (Lines.printed list.now) to.old }
+    ensures count { result ≡ Text.bytes_put (Lines.printed list.now) to.old }
     ensures room { length (Lines.printed list.now) ≤ ROOM }
 {
     if list.len() > MOST_BYTES {

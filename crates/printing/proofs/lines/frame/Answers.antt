@@ -3,4 +3,4 @@ use Rattle.printing.proofs.Writing.{and_then}
 use Rattle.printing.proofs.lines.frame.Goals as goal
 
 pub returns : goal.returns
-returns c = and_then (and_then c.decimal-at.ensures c.levels-at.ensures) c.put.ensures
+returns c = and_then _ _ (and_then _ _ c.decimal-at.ensures _ c.levels-at.ensures) _ c.put.ensures

@@ -9,4 +9,4 @@ loop-k-preserved c =
     let a = c.args in
     let l = c.loop-k in
     let line = row-frame a.out.now l.k a.stride a.voices a.frames (omega arith) (omega arith) (omega arith) in
-    renamed (each-more l.k _ line) (and_then l.invariant c.frame-at.ensures)
+    renamed _ (and_then _ _ l.invariant _ (renamed _ c.frame-at.ensures line)) (each-more l.k _)

@@ -7,4 +7,4 @@ use Rattle.printing.proofs.lines.levels.Goals as goal
 pub loop-v-preserved : goal.loop-v-preserved
 loop-v-preserved c =
     let l = c.loop-v in
-    renamed (each-more l.v _ (ap level c.bits.ensures)) (and_then l.invariant c.level-at.ensures)
+    renamed _ (and_then _ _ l.invariant _ (renamed _ c.level-at.ensures (ap level c.bits.ensures))) (each-more l.v _)

@@ -8,21 +8,26 @@ use Rattle.checking.specs.Checks.{seen}
 use Rattle.checking.proofs.Passing.{HasRoom, checked-has_room}
 use Rattle.printing.specs.Lines as Lines
 use Rattle.printing.proofs.Writing.{renamed}
+use Rattle.printing.proofs.Room.{fits}
 use Rattle.printing.proofs.Printed.{too-long, refused, accepted}
 use Rattle.printing.proofs.lines.print.Goals as goal
 use Rattle.printing.proofs.lines.print.Goals.{After-stride_of}
 
-pub returns-then-list-gt-MOST_BYTES-clause-text : goal.returns-then-list-gt-MOST_BYTES-clause-text
-returns-then-list-gt-MOST_BYTES-clause-text c = renamed (too-long c.args.list.now (omega arith)) c.put.ensures
+pub returns-then-list-gt-MOST_BYTES : goal.returns-then-list-gt-MOST_BYTES
+returns-then-list-gt-MOST_BYTES c =
+    let p = renamed _ c.put.ensures (too-long c.args.list.now (omega arith)) in
+    record { bytes = p.bytes; count = p.count; room = fits c.args.list.now }
 
-pub returns-in-Err-clause-text : goal.returns-in-Err-clause-text
-returns-in-Err-clause-text c =
+pub returns-in-Err : goal.returns-in-Err
+returns-in-Err c =
     let q = c.check-checked in
     let z : number_of q.result.verdict ≡ number c.in-Err.refused = ap number_of c.in-Err.is in
-    renamed
-    (ap (λ (n : ℕ). Lines.refusal n q.result.passed.at) (sym z)
-    ∙ refused c.args.list.now (omega arith) (seen q.result.verdict q.result.passed) q.ensures (λ h. number-some c.in-Err.refused (sym z ∙ h)))
-    c.refusal.ensures
+    let text =
+    ap (λ (n : ℕ). Lines.refusal n q.result.passed.at) (sym z)
+    ∙ refused c.args.list.now (omega arith) (seen q.result.verdict q.result.passed) q.ensures (λ h. number-some c.in-Err.refused (sym z ∙ h))
+    in
+    let p = renamed _ c.refusal.ensures text in
+    record { bytes = p.bytes; count = p.count; room = fits c.args.list.now }
 
 held : (c : After-stride_of) → HasRoom 16384 (seen c.check-checked.result.verdict c.check-checked.result.passed)
 held c = subst (HasRoom 16384) (sym c.check-checked.ensures) (checked-has_room c.args.list.now (4 * 16384))
@@ -40,12 +45,14 @@ frames-requires c =
     let levels = ap (λ (s : ℕ). q.result.passed.frames * s) (stride o) in
     (omega (arith, stride o, (stride_holds q.result.passed.known.voices).0), omega (arith, levels, (held o).levels, c.play.auto.out))
 
-pub returns-clause-text : goal.returns-clause-text
-returns-clause-text c =
+pub returns : goal.returns
+returns c =
     let q = c.check-checked in
     let s = seen q.result.verdict q.result.passed in
-    let o = (goal.at.returns-clause-text c).After-stride_of in
-    renamed
-    (ap (λ (w : ℕ). Lines.frames (Lines.bits_in c.play.new.out) s.known.voices w s.frames) (stride o)
-    ∙ accepted c.args.list.now (omega arith) s q.ensures _ c.play.new.out refl c.play.ensures.output (ap number_of c.in_default.is))
-    c.frames.ensures
+    let o = (goal.at.returns c).After-stride_of in
+    let text =
+    ap (λ (w : ℕ). Lines.frames (Lines.bits_in c.play.new.out) s.known.voices w s.frames) (stride o)
+    ∙ accepted c.args.list.now (omega arith) s q.ensures _ c.play.new.out refl c.play.ensures.output (ap number_of c.in_default.is)
+    in
+    let p = renamed _ c.frames.ensures text in
+    record { bytes = p.bytes; count = p.count; room = fits c.args.list.now }

@@ -6,5 +6,5 @@ use Rattle.printing.proofs.lines.refusal.Goals as goal
 
 pub returns : goal.returns
 returns c =
-    let number = renamed (ap decimal c.number.ensures) c.decimal-at.ensures in
-    and_then (and_then (and_then (and_then c.put-at.ensures number) c.put-at-2.ensures) c.decimal-at-2.ensures) c.put.ensures
+    let number = renamed _ c.decimal-at.ensures (ap decimal c.number.ensures) in
+    and_then _ _ (and_then _ _ (and_then _ _ (and_then _ _ c.put-at.ensures _ number) _ c.put-at-2.ensures) _ c.decimal-at-2.ensures) _ c.put.ensures
