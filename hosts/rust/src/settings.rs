@@ -67,8 +67,8 @@ impl Trigger {
 /// The settings of a voice's envelope.
 ///
 /// Times run from 0 to 1,048,576; over that they are refused, and below 0 or NaN they are 0. Levels and
-/// curves are limited to 0 to 1, NaN being 0. A curve of 0.5 is straight; with more, the level moves
-/// fast first and slowly into its target, with less the other way round.
+/// curves are limited to 0 to 1, NaN being 0. A curve of 0.5 is straight; with more, most of
+/// the way is gone early in the time, with less late.
 #[derive(Clone, Copy, Debug, PartialEq)]
 pub struct EnvelopeParams {
     /// What the five times count.
