@@ -108,6 +108,12 @@ def play(path, data):
     if refused:
         refusal, at = (int(number) for number in refused.groups())
         raise TooLong if refusal == 11 else Refused(refusal, at)
+    if not said:
+        # Nothing is printed of an accepted list without frames, and of no other.
+        try:
+            check(program("replay"), data)
+        except Refused:
+            raise _cut_short(path) from None
     voices, frames = records.extent(data)
     line = r"([0-9]+)" + r" [0-9a-f]{8}" * voices + r"\n"
     lines = said.splitlines(keepends=True)

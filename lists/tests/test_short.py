@@ -38,6 +38,13 @@ class Short(unittest.TestCase):
             with self.assertRaisesRegex(engine.EngineError, "^play did not write its whole answer$"):
                 engine.play(self.program("play", PRINTED[:end]), SAMPLE)
 
+    def test_nothing_printed(self):
+        opened = SAMPLE[:75]
+        self.assertEqual(engine.play(self.program("play", b""), opened), [])
+        for refused in (b"", opened[:-1], opened[:3] + b"\x41" + opened[4:], opened[1:], opened + opened):
+            with self.assertRaisesRegex(engine.EngineError, "^play did not write its whole answer$"):
+                engine.play(self.program("play", b""), refused)
+
     def test_other_answers(self):
         data, _ = text.read("open voices=2 usual\nframes 2\n")
         row = b" 00000000 00000000\n"

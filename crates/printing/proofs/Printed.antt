@@ -35,12 +35,12 @@ module _ (l : List ℕ) (short : length l ≤ 16384) (c : Checked) (is : c ≡ c
       let xs = rendered unopened (events l) in
       let rest = drop (length (bytes xs)) out₀ in
       let z' : (checked l (4 * 16384)).refusal ≡ 0 = ap (λ (c : Checked). c.refusal) (sym is) ∙ z in
-      let held : out ≡ bytes xs ++ rest = e ∙ if_accepted_lem _ _ out₀ (ap (λ (n : ℕ). (checked l n).refusal) n ∙ z') in
+      let written : out ≡ bytes xs ++ rest = e ∙ if_accepted_lem _ _ out₀ (ap (λ (n : ℕ). (checked l n).refusal) n ∙ z') in
       let long : length xs ≡ c.frames * stride_of c.known.voices =
       frames-written l (4 * 16384) z' ∙ ap (λ (c : Checked). c.frames * stride_of c.known.voices) (sym is)
       in
       let v = c.known.voices in
       let bits = λ (i : ℕ). bytes-shown xs rest i in
-      ap (λ (o : List ℕ). frames (bits_in o) v (stride_of v) c.frames) held
+      ap (λ (o : List ℕ). frames (bits_in o) v (stride_of v) c.frames) written
       ∙ frames-same v (stride_of v) c.frames _ (bits_of xs) (stride_holds v).0 (λ i h. bits i (omega (arith, h, long)))
       ∙ sym (all c (sym is) ∙ if_accepted_lem c.refusal _ _ z)

@@ -29,13 +29,13 @@ returns-in-Err c =
     let p = renamed _ c.refusal.ensures text in
     record { bytes = p.bytes; count = p.count; room = fits c.args.list.now }
 
-held : (c : After-stride_of) → HasRoom 16384 (seen c.check-checked.result.verdict c.check-checked.result.passed)
-held c = subst (HasRoom 16384) (sym c.check-checked.ensures) (checked-has_room c.args.list.now (4 * 16384))
+has_room : (c : After-stride_of) → HasRoom 16384 (seen c.check-checked.result.verdict c.check-checked.result.passed)
+has_room c = subst (HasRoom 16384) (sym c.check-checked.ensures) (checked-has_room c.args.list.now (4 * 16384))
 
 stride : (c : After-stride_of) → c.stride_of.result ≡ stride_of c.check-checked.result.passed.known.voices
 stride c =
     let n = c.check-checked.result.passed.known.voices in
-    let few : min n 64 ≡ n = omega (arith, (held c).voices) in
+    let few : min n 64 ≡ n = omega (arith, (has_room c).voices) in
     c.stride_of.ensures ∙ ap stride_of few
 
 pub frames-requires : goal.frames-requires
@@ -43,7 +43,7 @@ frames-requires c =
     let q = c.check-checked in
     let o = (goal.at.frames-requires c).After-stride_of in
     let levels = ap (λ (s : ℕ). q.result.passed.frames * s) (stride o) in
-    (omega (arith, stride o, (stride_holds q.result.passed.known.voices).0), omega (arith, levels, (held o).levels, c.play.auto.out))
+    (omega (arith, stride o, (stride_holds q.result.passed.known.voices).0), omega (arith, levels, (has_room o).levels, c.play.auto.out))
 
 pub returns : goal.returns
 returns c =
