@@ -179,7 +179,8 @@ uint32_t worfelli_live_tail(const worfelli_bank *bank, size_t voice, uint64_t *f
 uint32_t worfelli_live_lead(const worfelli_bank *bank, size_t voice, uint64_t *frames);
 
 /* Every call below answers 0, or the number that it is refused by; a refused one changes nothing behind
- * any pointer. An unnamed code, 10, is tested before a call's other numbers. Voices are counted from 0.
+ * any pointer, but for worfelli_bank_open, which then leaves a bank of no voices. An unnamed code, 10, is
+ * tested before a call's other numbers. Voices are counted from 0.
  *
  * Settings go in and come out by two arrays. */
 #define WORFELLI_NUMBERS(p) \
