@@ -1,5 +1,5 @@
 // Worfelli for hosts in C and in Rust: a live bank in the host's memory, and whole lists. Each
-// function hands what it is given to the bank or the player; include/worfelli.h has their C side.
+// function hands what it is given to the bank, the check or the player; include/worfelli.h has their C side.
 #![tactic(auto)]
 
 mod calls;
