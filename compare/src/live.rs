@@ -6,19 +6,19 @@
 //!   functions, [`through_rust`] by the crate worfelli; [`outputs`]: the memory
 //!   that they write to.
 //! - [`expected`]: what the Rust says to each call of a list of [`banks`], and
-//!   of every voice after it; [`held`]: a host's answers held against that.
+//!   of every voice after it; [`checked`]: a host's answers held against that.
 //! - [`coded`], [`unnamed`] and [`coverage`]: codes that mean nothing, which
 //!   only C can carry, and which of them were asked.
 //! - [`comparison`]: lists through both hosts; [`places`]: where a case stands.
 //!
 //! [`banks`]: crate::banks
 
+pub mod checked;
 pub mod coded;
 pub mod comparison;
 pub mod coverage;
 pub mod expected;
 pub mod functions;
-pub mod held;
 pub mod hosts;
 pub mod outputs;
 pub mod places;

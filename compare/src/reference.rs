@@ -28,12 +28,12 @@ pub fn refused() -> Envelope {
 /// levels at its end.
 pub fn call(envelope: &mut Envelope, call: &Call, levels: &mut Vec<f32>) -> Reply {
     let refusal = apply(envelope, call, levels);
-    told(refusal, envelope)
+    reply_of(refusal, envelope)
 }
 
-/// What is told of `envelope` beside a refusal's number.
+/// The reply of `envelope` beside a refusal's number.
 #[must_use]
-pub fn told(refusal: u32, envelope: &Envelope) -> Reply {
+pub fn reply_of(refusal: u32, envelope: &Envelope) -> Reply {
     Reply {
         refusal,
         settings: Settings::from(envelope.params()),

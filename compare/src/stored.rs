@@ -46,21 +46,21 @@ fn stored() -> Result<Stored, String> {
     let mut stored = Stored::default();
     for list in fixed::lists()? {
         if stored.add(&list.call_bytes(), &list.reply_bytes(), SHORT) {
-            told_by_running_on(&list)?;
+            given_by_running_on(&list)?;
         }
     }
     for list in banks::fixed::lists()? {
         if stored.add(&list.call_bytes(), &list.reply_bytes(), SHORT_BANK) {
-            told_by_histories(&list)?;
+            given_by_histories(&list)?;
         }
     }
     Ok(stored)
 }
 
 /// Whether every lead of `list` is the one that running on gives.
-fn told_by_running_on(list: &List) -> Result<(), String> {
-    let told = |step: &crate::lists::Step| step.run_on == Some(step.reply.lead);
-    if list.steps.iter().all(told) {
+fn given_by_running_on(list: &List) -> Result<(), String> {
+    let given = |step: &crate::lists::Step| step.run_on == Some(step.reply.lead);
+    if list.steps.iter().all(given) {
         Ok(())
     } else {
         Err(format!(
@@ -71,16 +71,16 @@ fn told_by_running_on(list: &List) -> Result<(), String> {
 }
 
 /// Whether every answer of `list` is the one that the histories give.
-fn told_by_histories(list: &banks::lists::List) -> Result<(), String> {
+fn given_by_histories(list: &banks::lists::List) -> Result<(), String> {
     let readings = list.steps.iter().filter_map(|step| step.readings);
-    let told = readings
+    let given = readings
         .into_iter()
         .all(|readings| readings.bank.bytes() == readings.history.bytes());
     let bits =
         |levels: &[f32]| -> Vec<u32> { levels.iter().map(|level| level.to_bits()).collect() };
     let bank = bits(&list.levels.bank);
     let levels = bank == bits(&list.levels.histories) && bank == bits(&list.levels.again);
-    if told && levels {
+    if given && levels {
         Ok(())
     } else {
         Err(format!(

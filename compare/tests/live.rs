@@ -3,9 +3,9 @@
 
 use compare::banks::calls::{Call, Reading};
 use compare::banks::lists::{Draft, List};
+use compare::live::checked::Checked;
 use compare::live::expected::Expecting;
 use compare::live::functions::{BYTES, LiveBank, agrees};
-use compare::live::held::Held;
 use compare::live::hosts::Host;
 use compare::live::outputs::Output;
 use compare::live::places::{Asked, Part, Place};
@@ -73,7 +73,7 @@ impl Host for Faulty {
         if self.is_left_out(call) {
             return 0;
         }
-        let kept = self.host.reading(0).told.settings;
+        let kept = self.host.reading(0).reply.settings;
         let first = out.first().copied();
         let answer = self.host.call(call, out);
         let (is_refused, last) = (answer != 0, out.last_mut());
@@ -103,18 +103,18 @@ impl Host for Faulty {
 
     fn reading(&mut self, voice: u64) -> Reading {
         let mut reading = self.host.reading(voice);
-        let told = &mut reading.told;
+        let reply = &mut reading.reply;
         match self.fault {
             Fault::ReadingMoves => {
                 let mut frame = [0.0; 16];
                 self.host.bank().process(&mut frame);
             }
-            Fault::Settings => told.settings.numbers[10] += 1.0,
-            Fault::Stage => told.stage += 1,
-            Fault::Idle => told.idle ^= 1,
-            Fault::Level => told.level = f32::from_bits(told.level.to_bits() ^ 1),
-            Fault::Tail => told.tail += 1,
-            Fault::Lead => told.lead += 1 << 32,
+            Fault::Settings => reply.settings.numbers[10] += 1.0,
+            Fault::Stage => reply.stage += 1,
+            Fault::Idle => reply.idle ^= 1,
+            Fault::Level => reply.level = f32::from_bits(reply.level.to_bits() ^ 1),
+            Fault::Tail => reply.tail += 1,
+            Fault::Lead => reply.lead += 1 << 32,
             Fault::Voices => reading.voices += 1,
             Fault::Stride => reading.stride += 1 << 40,
             Fault::ReadsAnyVoice => reading.refusals = [0; 5],
@@ -156,10 +156,10 @@ fn list() -> List {
 /// The subjects in which a host with this fault differs.
 fn differing(fault: Fault) -> Vec<&'static str> {
     let host = ThroughC::new(1).unwrap();
-    let mut held = Held::new(Faulty { host, fault }, Output::new(1).unwrap());
+    let mut checked = Checked::new(Faulty { host, fault }, Output::new(1).unwrap());
     let (list, mut expecting) = (list(), Expecting::default());
     let mut levels = list.levels.bank.as_slice();
-    held.host.begin();
+    checked.host.begin();
     for (number, step) in list.steps.iter().enumerate() {
         let place = Place {
             list: &list.name,
@@ -169,9 +169,9 @@ fn differing(fault: Fault) -> Vec<&'static str> {
         };
         let (written, later) = levels.split_at(step.call.levels());
         levels = later;
-        held.step(place, expecting.next(step, written));
+        checked.step(place, expecting.next(step, written));
     }
-    let tallies = held.tallies().into_iter();
+    let tallies = checked.tallies().into_iter();
     let different = tallies.filter(|tally| !tally.is_good());
     different.map(|tally| tally.name()).collect()
 }

@@ -6,7 +6,7 @@ use compare::reference::{LIMIT, RATE, TIME, refused};
 use compare::rust::envelope::{Envelope, EnvelopeParams, Timing, Trigger};
 
 /// The bits of the first `frames` levels of a new note.
-fn struck(mut envelope: Envelope, frames: usize) -> Vec<u32> {
+fn played(mut envelope: Envelope, frames: usize) -> Vec<u32> {
     let mut levels = vec![f32::NAN; frames];
     envelope.trigger(Trigger::New);
     envelope.process(&mut levels);
@@ -29,14 +29,14 @@ fn accepted() {
         ..EnvelopeParams::AMP
     };
     for frames in [0, 1, 2, 4800, 16_384, 16_385, 65_536, 300_000] {
-        let rust = struck(Envelope::new(settings, Timing::new(48_000.0)), frames);
+        let rust = played(Envelope::new(settings, Timing::new(48_000.0)), frames);
         assert_eq!(note(48_000.0, 100.0, frames), (0, rust), "{frames} frames");
     }
 }
 
 #[test]
 fn refused_by_number() {
-    let beside = struck(refused(), 3);
+    let beside = played(refused(), 3);
     let fast = f64::from(LIMIT).next_up();
     let long = LIMIT.next_up();
     assert_eq!(note(fast, long, 3), (RATE, beside.clone()));

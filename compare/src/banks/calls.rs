@@ -142,7 +142,7 @@ pub fn before(place: usize) -> f32 {
 #[derive(Clone, Copy, Debug)]
 pub struct Reading {
     /// Its refusal is that of the settings' reading.
-    pub told: Reply,
+    pub reply: Reply,
     /// Those of stage, idle, level, tail and lead.
     pub refusals: [u32; 5],
     pub voices: u64,
@@ -150,21 +150,21 @@ pub struct Reading {
 }
 
 impl Reading {
-    /// What is told of a voice.
+    /// What a voice replies.
     #[must_use]
-    pub fn of(told: Reply, voices: u64, stride: u64) -> Self {
+    pub fn of(reply: Reply, voices: u64, stride: u64) -> Self {
         Self {
-            told,
-            refusals: [told.refusal; 5],
+            reply,
+            refusals: [reply.refusal; 5],
             voices,
             stride,
         }
     }
 
-    /// What is told where `refusal` answers every reading.
+    /// The reply where `refusal` answers every reading.
     #[must_use]
     pub fn refused(refusal: u32, voices: u64, stride: u64) -> Self {
-        let told = Reply {
+        let reply = Reply {
             refusal,
             settings: Settings::from(&EnvelopeParams::AMP),
             stage: 0,
@@ -173,7 +173,7 @@ impl Reading {
             tail: 0,
             lead: 0,
         };
-        Self::of(told, voices, stride)
+        Self::of(reply, voices, stride)
     }
 
     /// Its bytes, with every NaN as the one that leaves the Rattle.
@@ -186,7 +186,7 @@ impl Reading {
             words[at + 1] = (number >> 32) as u32;
         }
         let mut bytes = [0; READING];
-        bytes[..REPLY].copy_from_slice(&self.told.bytes());
+        bytes[..REPLY].copy_from_slice(&self.reply.bytes());
         for (to, word) in bytes[REPLY..].chunks_exact_mut(4).zip(words) {
             to.copy_from_slice(&word.to_le_bytes());
         }

@@ -223,7 +223,7 @@ impl Draft {
 
     fn readings(&self, voice: u64, refusal: u32, run_on: u64) -> Readings {
         let history = self.reading(voice);
-        let lead = history.told.lead;
+        let lead = history.reply.lead;
         let envelope = self.histories.envelope(voice);
         Readings {
             bank: reading(&self.bank, voice, refusal),

@@ -5,7 +5,7 @@
 use crate::banks::calls::{Call, Reading, before};
 use crate::banks::refusals::stride;
 use crate::calls::{Reply, Settings, stage_number};
-use crate::reference::{ACCEPTED, lead, tail, told};
+use crate::reference::{ACCEPTED, lead, reply_of, tail};
 use crate::rust::envelope::{Envelope, EnvelopeBank, EnvelopeParams, Timing};
 use crate::simd::Level;
 
@@ -54,7 +54,7 @@ pub fn reading(bank: &EnvelopeBank, voice: u64, refusal: u32) -> Reading {
     }
     let voice = voice as usize;
     let alone = bank.voice(voice);
-    let told = Reply {
+    let reply = Reply {
         refusal,
         settings: Settings::from(bank.params(voice)),
         stage: stage_number(bank.stage(voice)),
@@ -63,7 +63,7 @@ pub fn reading(bank: &EnvelopeBank, voice: u64, refusal: u32) -> Reading {
         tail: tail(&alone),
         lead: lead(&alone),
     };
-    Reading::of(told, voices, stride)
+    Reading::of(reply, voices, stride)
 }
 
 /// What is said of a voice whose history leaves `envelope`, or of one that is
@@ -71,7 +71,7 @@ pub fn reading(bank: &EnvelopeBank, voice: u64, refusal: u32) -> Reading {
 #[must_use]
 pub fn reading_of(envelope: Option<&Envelope>, voices: u64, refusal: u32) -> Reading {
     match envelope {
-        Some(envelope) => Reading::of(told(refusal, envelope), voices, stride(voices)),
+        Some(envelope) => Reading::of(reply_of(refusal, envelope), voices, stride(voices)),
         None => Reading::refused(refusal, voices, stride(voices)),
     }
 }

@@ -3,9 +3,9 @@
 
 use crate::banks::coverage::Coverage;
 use crate::banks::lists::List;
+use crate::live::checked::Checked;
 use crate::live::expected::Expecting;
 use crate::live::functions::{VERSION, agrees};
-use crate::live::held::Held;
 use crate::live::hosts::Host;
 use crate::live::outputs::Output;
 use crate::live::places::{Asked, Part, Place};
@@ -18,8 +18,8 @@ use crate::report::Tally;
 
 /// Both hosts, and what was reached.
 pub struct Comparison {
-    c: Held<ThroughC>,
-    rust: Held<ThroughRust>,
+    c: Checked<ThroughC>,
+    rust: Checked<ThroughRust>,
     unnamed: Unnamed,
     version: Tally,
     lists: u64,
@@ -38,8 +38,8 @@ impl Comparison {
         }
         stops::tell();
         Ok(Self {
-            c: Held::new(ThroughC::new(seed)?, Output::new(seed)?),
-            rust: Held::new(ThroughRust::new()?, Output::new(seed)?),
+            c: Checked::new(ThroughC::new(seed)?, Output::new(seed)?),
+            rust: Checked::new(ThroughRust::new()?, Output::new(seed)?),
             unnamed: Unnamed::new(seed),
             version: Tally::of(ThroughC::NAME, "version"),
             lists: 0,

@@ -17,7 +17,7 @@ const COPIED: u64 = 8;
 /// What readings are written over: no reading answers with any of it.
 const BEFORE: Reply = marked(77, -7.5);
 
-/// What is told of a refused reading that wrote something.
+/// The answer of a refused reading that wrote something.
 const WROTE: Reply = marked(99, -9.5);
 
 const fn marked(number: u32, level: f32) -> Reply {
@@ -125,17 +125,17 @@ impl Host for ThroughC {
 
     fn reading(&mut self, voice: u64) -> Reading {
         let (bank, voice) = (self.bank(), voice as usize);
-        let mut told = BEFORE;
-        told.refusal = bank.params(voice, &mut told.settings);
+        let mut reply = BEFORE;
+        reply.refusal = bank.params(voice, &mut reply.settings);
         let refusals = [
-            bank.stage(voice, &mut told.stage),
-            bank.is_idle(voice, &mut told.idle),
-            bank.level(voice, &mut told.level),
-            bank.tail(voice, &mut told.tail),
-            bank.lead(voice, &mut told.lead),
+            bank.stage(voice, &mut reply.stage),
+            bank.is_idle(voice, &mut reply.idle),
+            bank.level(voice, &mut reply.level),
+            bank.tail(voice, &mut reply.tail),
+            bank.lead(voice, &mut reply.lead),
         ];
         Reading {
-            told: judged(told, refusals),
+            reply: judged(reply, refusals),
             refusals,
             voices: bank.voices() as u64,
             stride: bank.stride() as u64,
@@ -147,25 +147,25 @@ impl Host for ThroughC {
     }
 }
 
-/// What was told, where a refused reading is as the Rust's if it left what it
+/// The reply, where a refused reading is as the Rust's if it left what it
 /// would have written to.
-fn judged(mut told: Reply, [stage, idle, level, tail, lead]: [u32; 5]) -> Reply {
-    fn judge<T: Copy + PartialEq>(refusal: u32, of: fn(&mut Reply) -> &mut T, told: &mut Reply) {
+fn judged(mut reply: Reply, [stage, idle, level, tail, lead]: [u32; 5]) -> Reply {
+    fn judge<T: Copy + PartialEq>(refusal: u32, of: fn(&mut Reply) -> &mut T, reply: &mut Reply) {
         if refusal != ACCEPTED {
-            let left = *of(told) == *of(&mut BEFORE.clone());
-            let mut none = Reading::refused(refusal, 0, 0).told;
-            *of(told) = if left {
+            let left = *of(reply) == *of(&mut BEFORE.clone());
+            let mut none = Reading::refused(refusal, 0, 0).reply;
+            *of(reply) = if left {
                 *of(&mut none)
             } else {
                 *of(&mut WROTE.clone())
             };
         }
     }
-    judge(told.refusal, |told| &mut told.settings, &mut told);
-    judge(stage, |told| &mut told.stage, &mut told);
-    judge(idle, |told| &mut told.idle, &mut told);
-    judge(level, |told| &mut told.level, &mut told);
-    judge(tail, |told| &mut told.tail, &mut told);
-    judge(lead, |told| &mut told.lead, &mut told);
-    told
+    judge(reply.refusal, |reply| &mut reply.settings, &mut reply);
+    judge(stage, |reply| &mut reply.stage, &mut reply);
+    judge(idle, |reply| &mut reply.idle, &mut reply);
+    judge(level, |reply| &mut reply.level, &mut reply);
+    judge(tail, |reply| &mut reply.tail, &mut reply);
+    judge(lead, |reply| &mut reply.lead, &mut reply);
+    reply
 }

@@ -96,17 +96,17 @@ impl Host for ThroughRust {
         let (bank, voice) = (&self.bank, voice as usize);
         let (voices, stride) = (bank.voices() as u64, bank.stride() as u64);
         let mut reading = Reading::refused(ACCEPTED, voices, stride);
-        let told = &mut reading.told;
-        told.refusal = put(
+        let reply = &mut reading.reply;
+        reply.refusal = put(
             bank.params(voice).map(|p| Settings::from(&derived(p))),
-            &mut told.settings,
+            &mut reply.settings,
         );
         reading.refusals = [
-            put(bank.stage(voice).map(stage), &mut told.stage),
-            put(bank.is_idle(voice).map(u32::from), &mut told.idle),
-            put(bank.level(voice), &mut told.level),
-            put(bank.tail(voice), &mut told.tail),
-            put(bank.lead(voice), &mut told.lead),
+            put(bank.stage(voice).map(stage), &mut reply.stage),
+            put(bank.is_idle(voice).map(u32::from), &mut reply.idle),
+            put(bank.level(voice), &mut reply.level),
+            put(bank.tail(voice), &mut reply.tail),
+            put(bank.lead(voice), &mut reply.lead),
         ];
         reading
     }

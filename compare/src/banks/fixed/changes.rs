@@ -58,13 +58,13 @@ pub(super) fn for_one(case: &mut Case) -> bool {
 pub(super) fn timing(case: &mut Case) -> bool {
     falling(case, 33);
     case.ask(Call::Timing(Timing::new(2000.0)));
-    let longer = case.rest(0) == 12 && case.rest(32) == 14 && case.read(0).told.lead == 12;
+    let longer = case.rest(0) == 12 && case.rest(32) == 14 && case.read(0).reply.lead == 12;
     case.frames(2);
     case.ask(Call::Timing(Timing::new(500.0)));
     let ended = case.stands(0, Stage::Sustain, 0.0) && case.stands(32, Stage::Sustain, 0.0);
     // A later note goes by the timing of all.
     case.note(5);
-    longer && ended && case.rest(5) == 4 && case.read(5).told.tail == 4
+    longer && ended && case.rest(5) == 4 && case.read(5).reply.tail == 4
 }
 
 pub(super) fn triggers(case: &mut Case) -> bool {

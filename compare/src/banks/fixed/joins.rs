@@ -61,7 +61,7 @@ pub(super) fn takes_settings(case: &mut Case) -> bool {
     case.frames(2);
     case.ask(Call::Join(0, 1));
     let settings = case.0.bank().params(0) == case.0.bank().params(1);
-    let tail = case.read(0).told.tail;
+    let tail = case.read(0).reply.tail;
     case.ask(Call::Release(0));
     // It ends where the other's settings have it.
     case.frames(9);

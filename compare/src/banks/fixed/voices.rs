@@ -12,7 +12,7 @@ const LEVELS: [f32; 10] = [0.0, 0.0, 0.0, 0.25, 0.5, 0.75, 1.0, 1.0, 0.75, 0.5];
 pub(super) fn the_sample(case: &mut Case) -> bool {
     case.open(1, SAMPLE);
     case.note(0);
-    let lead = case.read(0).told.lead;
+    let lead = case.read(0).reply.lead;
     lead == 9 && case.frames(10)[0] == LEVELS
 }
 
@@ -40,7 +40,7 @@ fn counted(case: &mut Case, voices: u64, stride: u64) -> bool {
         1 << 32,
         u64::MAX,
     ];
-    let told = numbers.iter().all(|&voice| {
+    let answered = numbers.iter().all(|&voice| {
         let expected = if voice < voices { ACCEPTED } else { VOICE };
         named(case, voice).iter().all(|call| {
             case.ask(*call);
@@ -49,7 +49,7 @@ fn counted(case: &mut Case, voices: u64, stride: u64) -> bool {
     });
     let reading = case.read(0);
     let length = case.frames(3).len() as u64;
-    noted && told && reading.voices == voices && reading.stride == stride && length == stride
+    noted && answered && reading.voices == voices && reading.stride == stride && length == stride
 }
 
 /// Every call that names a voice, on `voice`.

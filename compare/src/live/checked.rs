@@ -13,7 +13,7 @@ use crate::reference::ACCEPTED;
 use crate::report::Tally;
 
 /// A host, and the subjects of its comparison.
-pub struct Held<H> {
+pub struct Checked<H> {
     pub host: H,
     output: Output,
     refusal: Tally,
@@ -27,7 +27,7 @@ pub struct Held<H> {
     state: Tally,
 }
 
-impl<H: Host> Held<H> {
+impl<H: Host> Checked<H> {
     #[must_use]
     pub fn new(host: H, output: Output) -> Self {
         let tally = |name| Tally::of(H::NAME, name);
@@ -57,16 +57,16 @@ impl<H: Host> Held<H> {
     pub fn step(&mut self, place: Place, expected: Expected) {
         let step = expected.step;
         if let (Call::Read(voice), Some(readings)) = (step.call, &step.readings) {
-            self.kept_by(place, |held| held.read(place, voice, readings));
+            self.kept_by(place, |checked| checked.read(place, voice, readings));
             return;
         }
         let is_opening = matches!(step.call, Call::Open(..));
         if step.refusal == ACCEPTED || is_opening {
             self.call(place, expected);
         } else {
-            self.kept_by(place, |held| held.call(place, expected));
+            self.kept_by(place, |checked| checked.call(place, expected));
         }
-        self.kept_by(place, |held| held.voices(place, expected.readings));
+        self.kept_by(place, |checked| checked.voices(place, expected.readings));
     }
 
     /// What is done has to leave all that the bank holds.
