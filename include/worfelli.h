@@ -58,7 +58,8 @@ enum {
     WORFELLI_WRONG_LENGTH = 8,      /* a length other than the tag's */
     WORFELLI_MISPLACED_OPEN = 9,    /* the first record is not open, or a later one is; an empty list */
     WORFELLI_UNNAMED_CODE = 10,     /* a unit, kind of trigger, legato or restart with no meaning */
-    WORFELLI_OUTPUT_TOO_SHORT = 11  /* more levels than the output holds */
+    WORFELLI_OUTPUT_TOO_SHORT = 11, /* more levels than the output holds */
+    WORFELLI_NOT_A_CHORD = 12       /* a chord that names a voice twice or has over 64 entries; never of a list */
 };
 
 #define WORFELLI_MAX_VOICES 64
@@ -165,6 +166,7 @@ uint32_t worfelli_live_set_params(worfelli_bank *bank, size_t voice, const float
 uint32_t worfelli_live_set_all_params(worfelli_bank *bank, const float *numbers, const uint32_t *named);
 uint32_t worfelli_live_set_timing(worfelli_bank *bank, double sample_rate, double tempo, double scale);
 uint32_t worfelli_live_trigger(worfelli_bank *bank, size_t voice, uint32_t kind);
+uint32_t worfelli_live_chord(worfelli_bank *bank, const size_t *voices, size_t count, uint32_t kind);
 uint32_t worfelli_live_release(worfelli_bank *bank, size_t voice);
 uint32_t worfelli_live_reset(worfelli_bank *bank, size_t voice);
 uint32_t worfelli_live_join(worfelli_bank *bank, size_t voice, size_t from);
@@ -225,6 +227,15 @@ static inline uint32_t worfelli_bank_set_timing(worfelli_bank *bank, const worfe
 static inline uint32_t worfelli_bank_trigger(worfelli_bank *bank, size_t voice, uint32_t kind)
 {
     return worfelli_live_trigger(bank, voice, kind);
+}
+
+/* A note starts on each of `count` voices, one after the other, all of the same kind: as so many calls of
+ * worfelli_bank_trigger in the order of the list. Refused by 10; by 12, a voice named twice, be it there or
+ * not, or over 64 of them; and by 2. A count of 0 is accepted, and starts nothing. */
+static inline uint32_t worfelli_bank_chord(worfelli_bank *bank, const size_t *voices, size_t count,
+                                           uint32_t kind)
+{
+    return worfelli_live_chord(bank, voices, count, kind);
 }
 
 /* The note of a voice ends. Refused by 2, as the two calls below. */

@@ -1,5 +1,6 @@
 -- The bank's calls, and the number that refuses each, read from the calls alone: document 01, 'The bank' and "No's, by call".
-use Rattle.std.specs.Prelude.{ℕ, zero, suc, ◌%◌, cond, ltb, eqb}
+use Rattle.std.specs.Prelude.{ℕ, zero, suc, ◌%◌, Bool, false, cond, ◌||◌, List, [], ◌∷◌, length, ltb, eqb}
+use Rattle.std.specs.List.{list_any}
 use Rattle.numbers.specs.Constants as Constants
 use Rattle.timing.specs.declared.Timing.{Timing}
 use Rattle.timing.specs.Clock as Clock
@@ -33,6 +34,8 @@ pub data Call : Type 0 where
   set_all_params : EnvelopeParams → Call
   set_timing : Timing → Call
   trigger : ℕ → Trigger → Call
+  -- One kind of trigger for each voice of a list.
+  chord : List ℕ → Trigger → Call
   release reset : ℕ → Call
   join : ℕ → ℕ → Call
   process : ℕ → Call
@@ -56,6 +59,20 @@ if_accepted (suc n) accepted refused = refused
 -- 2: no such voice; else what the later tests say.
 abbrev pub voice_refusal : Known → ℕ → ℕ → ℕ
 voice_refusal k v later = cond (ltb v k.voices) later 2
+
+-- 2: one of them is missing.
+abbrev pub voices_refusal : Known → List ℕ → ℕ
+voices_refusal k [] = 0
+voices_refusal k (v ∷ vs) = voice_refusal k v (voices_refusal k vs)
+
+-- Whether a number stands in the list twice, be there such a voice or not.
+abbrev pub names_twice : List ℕ → Bool
+names_twice [] = false
+names_twice (v ∷ vs) = list_any (λ w. eqb w v) vs || names_twice vs
+
+-- 12: over 64 entries, or a voice named twice. Then 2.
+unfoldable pub chord_refusal : Known → List ℕ → ℕ
+chord_refusal k vs = cond (ltb max_voices (length vs) || names_twice vs) 12 (voices_refusal k vs)
 
 -- 1, 4 and 3: over 64 voices, a rate over its limit, a time over its limit.
 unfoldable pub opening_refusal : Opening → ℕ
@@ -81,6 +98,7 @@ refusal k (Call.set_params v p) = voice_refusal k v (Refusals.params p)
 refusal k (Call.set_all_params p) = Refusals.params p
 refusal k (Call.set_timing t) = Refusals.timing t
 refusal k (Call.trigger v x) = voice_refusal k v 0
+refusal k (Call.chord vs x) = chord_refusal k vs
 refusal k (Call.release v) = voice_refusal k v 0
 refusal k (Call.reset v) = voice_refusal k v 0
 refusal k (Call.join v from) = voice_refusal k v (voice_refusal k from 0)

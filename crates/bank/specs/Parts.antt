@@ -1,6 +1,7 @@
 -- What the bank's private functions promise each other. No public statement cites this file.
-use Rattle.std.specs.Prelude.{cond, ◌≡◌, ℕ, ◌<◌, eqb}
+use Rattle.std.specs.Prelude.{cond, ◌≡◌, ℕ, ◌<◌, eqb, List}
 use Rattle.timing.specs.declared.Timing.{Timing}
+use Rattle.settings.specs.declared.settings.Trigger as Triggers
 use Rattle.lane.specs.declared.lanes.Voice.{Voice}
 use Rattle.lane.specs.Planning as Planning
 use Rattle.lane.specs.Voices as Voices
@@ -10,7 +11,7 @@ use Rattle.rows.specs.Runs.{left_after}
 use Rattle.bank.specs.declared.changes.Change.{Change}
 use Rattle.bank.specs.declared.changes.Change.TheVariants.{Params, Replan, Trigger, Release, Reset, Join, Follow}
 use Rattle.bank.specs.Calls.{if_accepted, voice_refusal}
-use Rattle.bank.specs.Banks.{bank_of, known, voice, put, on_all}
+use Rattle.bank.specs.Banks.{bank_of, known, voice, put, on_all, chord}
 use Rattle.bank.specs.Lent.{Kept, KeptFrom}
 
 -- The voice after a change.
@@ -39,6 +40,11 @@ pub record One (v : ℕ) (g : Voice → Voice) (r : ℕ) (m m' : Arrays) : Type 
 -- Every voice is changed.
 pub record All (g : Voice → Voice) (m m' : Arrays) : Type 0 where
   pub bank : bank_of m' ≡ on_all g (bank_of m)
+  pub beside : KeptFrom (count_of m.codes) m m'
+
+-- Each of these voices has been triggered, one after the other.
+pub record Chord (vs : List ℕ) (x : Triggers.Trigger) (m m' : Arrays) : Type 0 where
+  pub bank : bank_of m' ≡ chord x (bank_of m) vs
   pub beside : KeptFrom (count_of m.codes) m m'
 
 -- A voice whose segment has ended has what follows it.

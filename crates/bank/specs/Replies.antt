@@ -38,6 +38,7 @@ accepted_reply k e drawn (Call.set_params v p) = Reply.done
 accepted_reply k e drawn (Call.set_all_params p) = Reply.done
 accepted_reply k e drawn (Call.set_timing t) = Reply.done
 accepted_reply k e drawn (Call.trigger v x) = Reply.done
+accepted_reply k e drawn (Call.chord vs x) = Reply.done
 accepted_reply k e drawn (Call.release v) = Reply.done
 accepted_reply k e drawn (Call.reset v) = Reply.done
 accepted_reply k e drawn (Call.join v from) = Reply.done

@@ -5,6 +5,7 @@ mod banks;
 mod blocks;
 mod calls;
 mod changes;
+mod chords;
 mod known;
 mod opening;
 mod readings;

@@ -5,7 +5,7 @@ use mathlib.Core.Logic.{◌≢◌}
 use Rattle.std.specs.Prelude.{Result, Ok, Err}
 use Rattle.std.specs.Result.{IsErrAnd}
 use Rattle.settings.specs.declared.refusals.Refusal.{Refusal}
-use Rattle.settings.specs.declared.refusals.Refusal.TheVariants.{TooManyVoices, NoSuchVoice, TimeOver, RateOver, NotWholeFrames, CutShort, UnknownTag, WrongLength, MisplacedOpen, UnnamedCode, OutputTooShort}
+use Rattle.settings.specs.declared.refusals.Refusal.TheVariants.{TooManyVoices, NoSuchVoice, TimeOver, RateOver, NotWholeFrames, CutShort, UnknownTag, WrongLength, MisplacedOpen, UnnamedCode, OutputTooShort, NotAChord}
 use Rattle.settings.specs.Refusals.{number, number_of}
 
 pub number_of-propagated : {A : Type 0} (r : Result A Refusal) (e : Refusal) → IsErrAnd r (λ x. x ≡ e) → number_of r ≡ number e
@@ -25,3 +25,4 @@ number-some WrongLength = λ h. omega arith
 number-some MisplacedOpen = λ h. omega arith
 number-some UnnamedCode = λ h. omega arith
 number-some OutputTooShort = λ h. omega arith
+number-some NotAChord = λ h. omega arith

@@ -4,7 +4,7 @@ use Rattle.timing.specs.declared.Timing.{Timing}
 use Rattle.timing.specs.Samples.{over}
 use Rattle.settings.specs.declared.settings.EnvelopeParams.{EnvelopeParams}
 use Rattle.settings.specs.declared.refusals.Refusal.{Refusal}
-use Rattle.settings.specs.declared.refusals.Refusal.TheVariants.{TooManyVoices, NoSuchVoice, TimeOver, RateOver, NotWholeFrames, CutShort, UnknownTag, WrongLength, MisplacedOpen, UnnamedCode, OutputTooShort}
+use Rattle.settings.specs.declared.refusals.Refusal.TheVariants.{TooManyVoices, NoSuchVoice, TimeOver, RateOver, NotWholeFrames, CutShort, UnknownTag, WrongLength, MisplacedOpen, UnnamedCode, OutputTooShort, NotAChord}
 
 -- Each refusal's number.
 abbrev pub number : Refusal → ℕ
@@ -19,6 +19,7 @@ number WrongLength = 8
 number MisplacedOpen = 9
 number UnnamedCode = 10
 number OutputTooShort = 11
+number NotAChord = 12
 
 -- The number of an answer: 0 if the call is accepted.
 abbrev pub number_of : {A : Type 0} → Result A Refusal → ℕ

@@ -28,6 +28,8 @@ pub enum Refusal {
     UnnamedCode = 10,
     // An output that doesn't hold a list's frames.
     OutputTooShort = 11,
+    // A chord that names a voice twice, or of more voices than a bank has room for.
+    NotAChord = 12,
 }
 
 impl Refusal {

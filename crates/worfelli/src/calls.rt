@@ -113,6 +113,19 @@ pub extern "C" fn worfelli_live_trigger(bank: &mut Bank, voice: usize, kind: u32
     }
 }
 
+// A note for each of these voices, by its kind of trigger. Refused: 10, 12, 2.
+#[unsafe(no_mangle)]
+pub extern "C" fn worfelli_live_chord(bank: &mut Bank, voices: &[usize], kind: u32) -> u32
+    ensures refusal { result ≡ (Live.answer (ltb kind 3) (Banks.bank_of bank.old.arrays) (Call.chord voices.now (Format.kind kind))).refusal }
+    ensures bank { Banks.bank_of bank.new.arrays ≡ (Live.answer (ltb kind 3) (Banks.bank_of bank.old.arrays) (Call.chord voices.now (Format.kind kind))).bank }
+    ensures kept { Lent.Kept result bank.old.arrays bank.new.arrays }
+{
+    match coded::trigger(kind) {
+        Ok(trigger) => number_of(bank.chord(voices, trigger)),
+        Err(refusal) => refusal.number(),
+    }
+}
+
 // The end of a voice's note. Refused, as the two calls below: 2.
 #[unsafe(no_mangle)]
 pub extern "C" fn worfelli_live_release(bank: &mut Bank, voice: usize) -> u32
