@@ -139,7 +139,7 @@ class Read(unittest.TestCase):
             ("trigger 0, 3 new", 1, f"{comma}, not '0,'"),
             ("trigger 0 ,3 new", 1, "expected new or retrigger or legato, not ',3'"),
             ("trigger 0,7-4 new", 1, "expected the lower voice of a range first, not '0,7-4'"),
-            ("trigger 0,4,0 new", 1, "expected voice 0 once, not '0,4,0'"),
+            ("trigger 4,0,7,0 new", 1, "expected voice 0 once, not '4,0,7,0'"),
             (opened + "trigger\n    2,1-3 new", 3, "expected voice 2 once, not '2,1-3'"),
             ("trigger 200,200 new", 1, "expected voice 200 once, not '200,200'"),
             ("trigger 0-64 new", 1, "expected at most 64 voices, not '0-64'"),
