@@ -36,7 +36,7 @@ module _ (k : Known) (vs : List ℕ) (i : ℕ) (h : i < length vs) where
 -- The voices of an accepted chord are all there.
 pub chord-there : (k : Known) (vs : List ℕ) → chord_refusal k vs ≡ 0 → voices_refusal k vs ≡ 0
 unfolding chord_refusal
-chord-there k vs e = go (ltb 64 (length vs) || names_twice vs) e
+chord-there k vs e = go _ e
   where
     go : (t : Bool) → cond t 12 (voices_refusal k vs) ≡ 0 → voices_refusal k vs ≡ 0
     go true e = absurd (omega (arith, e))
