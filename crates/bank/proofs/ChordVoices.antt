@@ -1,6 +1,6 @@
 -- The voices of a chord, one after the other. A voice that is missing refuses what is left of the list, and one that is there leaves it to the rest
--- (`refused_here`, `refused_on`). `Chorded` is the invariant of the notes: those that are left, in the bank that the arrays now hold, are the whole chord
--- in the first one. `chorded-more` is its step: a voice that is triggered in the arrays is triggered in the bank.
+-- (`refused_here`, `refused_on`). `Triggering` is the invariant of the notes: those that are left, in the bank that the arrays now hold, are the whole chord
+-- in the first one. `triggering-more` is its step: a voice that is triggered in the arrays is triggered in the bank.
 use mathlib.Core.Path.{◌≡◌, refl, sym, ap, ◌∙◌}
 use mathlib.Core.Bool.{Bool, true, false, cond, ◌||◌}
 use mathlib.Core.List.{List}
@@ -36,7 +36,7 @@ module _ (k : Known) (vs : List ℕ) (i : ℕ) (h : i < length vs) where
 -- The voices of an accepted chord are all there.
 pub chord-there : (k : Known) (vs : List ℕ) → chord_refusal k vs ≡ 0 → voices_refusal k vs ≡ 0
 unfolding chord_refusal
-chord-there k vs e = go (ltb 64 (length vs) || names_twice vs) e
+chord-there k vs e = go _ e
   where
     go : (t : Bool) → cond t 12 (voices_refusal k vs) ≡ 0 → voices_refusal k vs ≡ 0
     go true e = absurd (omega (arith, e))
@@ -45,7 +45,7 @@ chord-there k vs e = go (ltb 64 (length vs) || names_twice vs) e
 -- ---- the notes
 
 -- The notes of the first i voices have begun, and those of the rest are still to come.
-pub record Chorded (vs : List ℕ) (x : Trigger) (m : Arrays) (i : ℕ) (m' : Arrays) : Type 0 where
+pub record Triggering (vs : List ℕ) (x : Trigger) (m : Arrays) (i : ℕ) (m' : Arrays) : Type 0 where
   pub bank : fold (triggered x) (bank_of m') (drop i vs) ≡ fold (triggered x) (bank_of m) vs
   pub there : voices_refusal (known (bank_of m)) (drop i vs) ≡ 0
   pub beside : KeptFrom (count_of m.codes) m m'
@@ -62,12 +62,12 @@ triggered-stored v x m m' h S =
     ∙ ap (λ (y : Voice). put v (Voices.trigger (timing_at m.bends) x y) (bank_of m)) e
 
 module _ (vs : List ℕ) (x : Trigger) (m : Arrays) where
-  pub chorded-start : voices_refusal (known (bank_of m)) vs ≡ 0 → Chorded vs x m 0 m
-  chorded-start e = record { bank = refl; there = e; beside = λ w i j. same_self w m; voices = refl; timing = refl }
+  pub triggering-start : voices_refusal (known (bank_of m)) vs ≡ 0 → Triggering vs x m 0 m
+  triggering-start e = record { bank = refl; there = e; beside = λ w i j. same_self w m; voices = refl; timing = refl }
 
-  pub chorded-more : (i : ℕ) (m' m'' : Arrays) → i < length vs → Chorded vs x m i m'
-      → Stored (get_or vs i 0) (Voices.trigger (timing_at m.bends) x (loaded m' (get_or vs i 0))) m' m'' → Chorded vs x m (i + 1) m''
-  chorded-more i m' m'' h C S =
+  pub triggering-more : (i : ℕ) (m' m'' : Arrays) → i < length vs → Triggering vs x m i m'
+      → Stored (get_or vs i 0) (Voices.trigger (timing_at m.bends) x (loaded m' (get_or vs i 0))) m' m'' → Triggering vs x m (i + 1) m''
+  triggering-more i m' m'' h C S =
       record {
         bank =
             ap (λ (b : Bank). fold (triggered x) b (drop (i + 1) vs)) (triggered-stored v x m' m'' here (rw C.timing S))

@@ -288,14 +288,14 @@ pub record Cut (o : Opening) (pre post : List Call) (a c : ℕ) : Type 0 where
       → written_after o pre (out₁ ++ out₂) ≡ written_after o pre out₁ ++ written_after o (pre ++ block o a ∷ []) out₂
 
 -- The single triggers of a chord, in the order of its list.
-abbrev pub singles : List ℕ → Trigger → List Call
-singles vs x = map (λ v. Call.trigger v x) vs
+abbrev pub single_triggers : List ℕ → Trigger → List Call
+single_triggers vs x = map (λ v. Call.trigger v x) vs
 
 -- An accepted chord anywhere in a list, and its single triggers in its place: the same bank and histories, and the same replies from there on.
-pub record ChordSingly (o : Opening) (pre post : List Call) (vs : List ℕ) (x : Trigger) : Type 0 where
-  pub bank : bank_after o (pre ++ Call.chord vs x ∷ post) ≡ bank_after o (pre ++ singles vs x ++ post)
-  pub histories : histories_of o (pre ++ Call.chord vs x ∷ post) ≡ histories_of o (pre ++ singles vs x ++ post)
-  pub replies : replies_from (bank_after o (pre ++ Call.chord vs x ∷ [])) post ≡ replies_from (bank_after o (pre ++ singles vs x)) post
+pub record ChordIsTriggers (o : Opening) (pre post : List Call) (vs : List ℕ) (x : Trigger) : Type 0 where
+  pub bank : bank_after o (pre ++ Call.chord vs x ∷ post) ≡ bank_after o (pre ++ single_triggers vs x ++ post)
+  pub histories : histories_of o (pre ++ Call.chord vs x ∷ post) ≡ histories_of o (pre ++ single_triggers vs x ++ post)
+  pub replies : replies_from (bank_after o (pre ++ Call.chord vs x ∷ [])) post ≡ replies_from (bank_after o (pre ++ single_triggers vs x)) post
 
 -- The place: the sample of its curve, from 0, that an attack begins with which follows a delay at this level.
 unfoldable pub place : EnvelopeParams → Timing → Float → ℕ
@@ -352,6 +352,6 @@ pub record Demand3 : Type 0 where
   pub two : (o₁ o₂ : Opening) (cs₁ cs₂ : List Call) (v w : ℕ) → v < voices_of o₁ → w < voices_of o₂ → TwoLists o₁ o₂ cs₁ cs₂ v w
   pub cut : (o : Opening) (pre post : List Call) (a c : ℕ) → Cut o pre post a c
   pub chord :
-      (o : Opening) (pre post : List Call) (vs : List ℕ) (x : Trigger) → refusal_after o pre (Call.chord vs x) ≡ 0 → ChordSingly o pre post vs x
+      (o : Opening) (pre post : List Call) (vs : List ℕ) (x : Trigger) → refusal_after o pre (Call.chord vs x) ≡ 0 → ChordIsTriggers o pre post vs x
   pub notes : (h : History) (k : ℕ) → NoteLengths h k
   pub played : (o : Opening) (cs : List Call) (v k : ℕ) → v < voices_of o → NoteInBank o cs v k

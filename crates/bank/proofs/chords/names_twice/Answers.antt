@@ -1,4 +1,4 @@
--- `names_twice`: a number that stands among those before it, as its mark or the search says, is named twice (`named-found`); else one more is
+-- `names_twice`: a number that stands among those before it, as its mark or the search says, is named twice (`twice-found`); else one more is
 -- different from those before it (`marked-one`, `marked-none`), and at the end all are.
 use mathlib.Core.Path.{sym, ap, subst, ◌∙◌}
 use Prim.Native.Nat.{◌+◌, ◌<◌}
@@ -6,7 +6,7 @@ use native.Mathlib.Omega.{arith}
 use lib.ListN.{get_or}
 use Rattle.std.proofs.lemmas.List.{take_all}
 use Rattle.bank.specs.Calls.{names_twice}
-use Rattle.bank.proofs.Repeats.{Marked, named-found, marked-start, marked-one, marked-none}
+use Rattle.bank.proofs.Repeats.{Marked, twice-found, marked-start, marked-one, marked-none}
 use Rattle.bank.proofs.chords.names_twice.Goals as goal
 use Rattle.bank.proofs.chords.names_twice.Goals.{then-voice-ge-MAX_VOICES+else-contains, else-voice-ge-MAX_VOICES+else-marked-voice}
 
@@ -17,13 +17,13 @@ pub returns-then-contains : goal.returns-then-contains
 returns-then-contains c =
     let a = c.args in
     let l = c.loop-i in
-    sym (named-found a.voices.now l.i c.loop-i-test.true (sym c.contains.ensures.value ∙ c.if-contains.true))
+    sym (twice-found a.voices.now l.i c.loop-i-test.true (sym c.contains.ensures.value ∙ c.if-contains.true))
 
 pub returns-then-marked-voice : goal.returns-then-marked-voice
 returns-then-marked-voice c =
     let a = c.args in
     let l = c.loop-i in
-    sym (named-found a.voices.now l.i c.loop-i-test.true
+    sym (twice-found a.voices.now l.i c.loop-i-test.true
     (sym (l.invariant.tells (get_or a.voices.now l.i 0) (omega (arith, c.if-voice-ge-MAX_VOICES.false))) ∙ c.if-marked-voice.true))
 
 pub loop-i-preserved : goal.loop-i-preserved
