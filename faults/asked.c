@@ -30,7 +30,7 @@ static double double_of(uint64_t bits)
 
 #define OTHERS ((size_t)12)
 
-/* One of so many numbers that are no voice of most banks. */
+/* A number that few banks have a voice of. */
 static size_t other_voice(size_t choice, size_t voices)
 {
     const size_t others[OTHERS] = {voices, voices + 1, 63, 64, 65, 255, (size_t)1 << 32, SIZE_MAX / 14 + 1,

@@ -24,8 +24,8 @@ struct functions {
 
 #define FUNCTIONS(of) \
     { of##_open, of##_set_params, of##_set_all_params, of##_set_timing, of##_trigger, of##_chord, of##_release, \
-      of##_reset, of##_join, of##_process, of##_voices, of##_stride, of##_params, of##_stage, of##_is_idle, of##_level, \
-      of##_tail, of##_lead }
+      of##_reset, of##_join, of##_process, of##_voices, of##_stride, of##_params, of##_stage, of##_is_idle, \
+      of##_level, of##_tail, of##_lead }
 
 static const struct functions library = FUNCTIONS(worfelli_live);
 #ifdef GUIDE
