@@ -205,12 +205,12 @@ def _plot(arguments):
 
 
 def _voices(given, count):
-    """The voices that were chosen, as in 0,3-5."""
-    voices = []
-    for part in given.split(","):
-        first, _, last = part.partition("-")
-        last = last or first
-        if not (first.isdecimal() and last.isdecimal() and int(first) <= int(last) < count):
-            raise Wrong(f"--voices {given}: expected some of the list's {count} voices, from 0, as 0,3-5")
-        voices += range(int(first), int(last) + 1)
+    """The voices that were chosen, as in 0,3-5; one may be chosen twice."""
+    wrong = Wrong(f"--voices {given}: expected some of the list's {count} voices, from 0, as 0,3-5")
+    try:
+        voices = text.voices(given)
+    except ValueError:
+        raise wrong from None
+    if max(voices) >= count:
+        raise wrong
     return voices

@@ -13,6 +13,9 @@ from lists.records import Code, Whole
 
 COLUMNS = 100
 NAME = re.compile(r"[a-z][a-z0-9_-]*")
+VOICES = "a voice from 0 to 255, or several as 0,3-5"
+# The most voices of a bank, and so of a chord.
+MOST_VOICES = 64
 
 # What `usual` stands for: the usual numbers of docs/FORMAT.md.
 USUAL = {
@@ -45,6 +48,25 @@ def number(text, field):
     return floats.read(text, field)
 
 
+def voices(text):
+    """The voices that a text such as 0,3-5 names, in its order. ValueError says what was expected."""
+    items = text.split(",")
+    if "" in items:
+        raise ValueError("expected a voice on each side of a comma, without a space")
+    return [voice for item in items for voice in _range(item)]
+
+
+def _range(item):
+    """The voices of one item, as 4 or 4-7."""
+    try:
+        ends = [number(end, records.BYTE) for end in item.split("-", 1)]
+    except ValueError:
+        raise ValueError(f"expected {VOICES}") from None
+    if ends[-1] < ends[0]:
+        raise ValueError("expected the lower voice of a range first")
+    return range(ends[0], ends[-1] + 1)
+
+
 def said(bits, field):
     """The text of a number."""
     if isinstance(field, Code):
@@ -58,7 +80,7 @@ USUAL_NUMBERS = {name: number(text, FIELDS[name]) for name, text in USUAL.items(
 
 
 def read(text):
-    """The bytes of the list that a text says, and the line at which each of its records begins."""
+    """The bytes of the list that a text says; and of each record of the text, the byte and the line it begins at."""
     reader = _Reader()
     for words in _records_of(text):
         reader.record(words)
@@ -154,7 +176,7 @@ class _Reader:
         return {"voice": words.number(records.BYTE, "a voice")}
 
     def open(self, words):
-        count = words.read(_voices, "voices=")
+        count = words.read(_voice_count, "voices=")
         self.add(records.OPEN, {"voices": count, **self.fields(words, FIELDS)})
 
     def settings(self, words):
@@ -166,8 +188,10 @@ class _Reader:
             self.add(records.SETTINGS_ONE, {**body, **self.fields(words, records.SETTINGS)})
 
     def trigger(self, words):
-        body = self.voice(words)
-        self.add(records.TRIGGER, {**body, "kind": words.number(records.KIND, "new, retrigger or legato")})
+        chord = words.read(_chord, VOICES)
+        kind = words.number(records.KIND, "new, retrigger or legato")
+        for voice in chord:
+            self.add(records.TRIGGER, {"voice": voice, "kind": kind})
 
     def join(self, words):
         body = self.voice(words)
@@ -242,10 +266,21 @@ def _first(fields):
     return next(iter(fields))
 
 
-def _voices(word):
+def _voice_count(word):
     if not word.startswith("voices="):
         raise ValueError("expected voices=")
     return number(word[7:], records.BYTE)
+
+
+def _chord(word):
+    """The voices of a chord: at most 64 and none twice, since a bank refuses any other chord by 12."""
+    chord = voices(word)
+    if len(chord) > MOST_VOICES:
+        raise ValueError(f"expected at most {MOST_VOICES} voices")
+    twice = [voice for at, voice in enumerate(chord) if voice in chord[:at]]
+    if twice:
+        raise ValueError(f"expected voice {twice[0]} once")
+    return chord
 
 
 def _byte(word):

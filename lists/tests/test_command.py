@@ -49,6 +49,10 @@ class Commands(unittest.TestCase):
         self.assertEqual(
             [line.split() for line in out.splitlines()], [[row[0], row[64], row[2], row[3]] for row in whole]
         )
+        _, out, _ = self.run_command("play", retimed, "--bits", "--voices", "5,4-5")
+        self.assertEqual(
+            [line.split() for line in out.splitlines()], [[row[0], row[6], row[5], row[6]] for row in whole]
+        )
         _, out, _ = self.run_command("play", retimed, "--voices", "5")
         self.assertEqual(out.splitlines()[:2], ["frame voice 5", "    0 0.000000"])
 
@@ -82,6 +86,8 @@ class Commands(unittest.TestCase):
         sample = HOME / "examples" / "sample.list"
         self.stored("line.txt", "open voices=1 usual\nfrmes 3\n")
         self.stored("voice.txt", "# one\nopen voices=1 usual\n\ntrigger 1 new\n")
+        self.stored("chord.txt", "open voices=3 usual\ntrigger 0-2 new\n\ntrigger 2,3,1 new\nframes 3\n")
+        self.stored("twice.txt", "open voices=3 usual\ntrigger 2,0-2 new\n")
         self.stored("huge.txt", "open voices=1 usual\nframes 4294967295\n")
         (self.folder / "cut.list").write_bytes(sample.read_bytes()[:-1])
         (self.folder / "byte.txt").write_bytes(b"\xff")
@@ -91,24 +97,30 @@ class Commands(unittest.TestCase):
             (("play", "line.txt"), f"line.txt:2: expected {records}, not 'frmes'"),
             (("play", "byte.txt"), "byte.txt: expected text in UTF-8; the name of a list's bytes ends in .list"),
             (("play", "voice.txt"), "voice.txt:4: refused 2: the bank has no such voice"),
+            (("play", "chord.txt"), "chord.txt:4: refused 2: the bank has no such voice"),
+            (("play", "twice.txt"), "twice.txt:2: expected voice 2 once, not '2,0-2'"),
             (("play", "cut.list"), "cut.list: at byte 80: refused 6: the bytes end before the record does"),
             (("plot", "voice.txt", "a.svg"), "voice.txt:4: refused 2: the bank has no such voice"),
+            (("plot", "chord.txt", "a.svg"), "chord.txt:4: refused 2: the bank has no such voice"),
             (
                 ("plot", "huge.txt", "a.svg"),
                 "huge.txt: 4294967295 frames of 1 voices are too long: at most 16777216 levels",
             ),
             (("play", "huge.txt"), "huge.txt: 4294967295 frames of 1 voices are too long: at most 16777216 levels"),
             (("plot", sample, "a.png"), "a.png: expected a name that ends in .svg"),
-            (
-                ("plot", sample, "a.svg", "--voices", "0-1"),
-                "--voices 0-1: expected some of the list's 1 voices, from 0, as 0,3-5",
-            ),
             (("plot", sample, "none/a.svg"), "none/a.svg: No such file or directory"),
             (("write", sample, "a.list"), f"{sample}: expected a text; a name that ends in .list is a list already"),
             (("write", "voice.txt", "a.bin"), "a.bin: expected a name that ends in .list"),
         ]:
             self.assertEqual(self.run_command(*words), (1, "", f"worfelli: {said}\n"))
             self.assertFalse((self.folder / "a.svg").exists())
+
+    def test_voices_that_cannot_be_chosen(self):
+        sample = HOME / "examples" / "sample.list"
+        for chosen in ("0-1", "0,1", "256", "1-0", "0-", "0,,0", "x", ""):
+            said = f"worfelli: --voices {chosen}: expected some of the list's 1 voices, from 0, as 0,3-5\n"
+            for words in (("play", sample), ("plot", sample, "a.svg")):
+                self.assertEqual(self.run_command(*words, "--voices", chosen), (1, "", said))
 
     def test_no_command(self):
         status, out, said = self.run_command()

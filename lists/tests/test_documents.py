@@ -39,6 +39,12 @@ class Documents(unittest.TestCase):
         shown = "\n".join(block("docs/TEXT.md", "# A note on one voice. A millisecond is 48 frames."))
         self.assertIn("frames 24000\n", text.write(text.read(shown)[0]))
 
+    def test_chord(self):
+        page = (HOME / "docs" / "TEXT.md").read_text()
+        self.assertIn("| `trigger 0,4-7 new` | a chord: triggers of voices 0, 4, 5, 6 and 7, ", page)
+        single = "".join(f"trigger {voice} new\n" for voice in (0, 4, 5, 6, 7))
+        self.assertEqual(text.write(text.read("trigger 0,4-7 new")[0]), single)
+
     def test_usual_fields(self):
         page = (HOME / "docs" / "TEXT.md").read_text()
         for name, number in text.USUAL.items():

@@ -2,7 +2,7 @@
 
 import unittest
 
-from lists import text
+from lists import records, text
 from lists.engine import HOME
 from lists.tests import samples
 
@@ -75,15 +75,38 @@ class Read(unittest.TestCase):
         self.assertIn("frames 12000\n", text.write(data))
         self.assertIn("frames 441\n", text.write(data))
 
+    def test_chords(self):
+        for chord, voices in [
+            ("3", [3]),
+            ("0,4,7", [0, 4, 7]),
+            ("7,0,4", [7, 0, 4]),
+            ("0-3", [0, 1, 2, 3]),
+            ("0,4-7", [0, 4, 5, 6, 7]),
+            ("9,2-2,4-5,0", [9, 2, 4, 5, 0]),
+            ("0-63", range(64)),
+            # Whether the bank has them is for the engine to say.
+            ("200,254-255", [200, 254, 255]),
+        ]:
+            for kind in records.KIND.names:
+                single = "".join(f"trigger {voice} {kind}\n" for voice in voices)
+                data, _ = text.read(f"trigger {chord} {kind}\n")
+                self.assertEqual(data, text.read(single)[0])
+                self.assertEqual(text.write(data), single)
+
     def test_lines_of_records(self):
         _, lines = text.read("# one\nopen voices=1 usual\n    rate=1000\ndefine a usual\n\ntrigger 0 new\nframes 10")
         self.assertEqual(lines, [(0, 2), (75, 6), (80, 7)])
+        # All triggers of a chord are of its line.
+        _, lines = text.read("open voices=4 usual\n\ntrigger 0,2-3\n    new\nframes 10")
+        self.assertEqual(lines, [(0, 1), (75, 3), (90, 5)])
 
     def test_what_is_wrong(self):
         opened = "open voices=1 usual\n"
-        records = "open, settings, timing, trigger, release, reset, join, frames, bytes, define"
+        names = "open, settings, timing, trigger, release, reset, join, frames, bytes, define"
+        several = "expected a voice from 0 to 255, or several as 0,3-5"
+        comma = "expected a voice on each side of a comma, without a space"
         for given, line, wrong in [
-            ("strike 0", 1, f"expected {records}, not 'strike'"),
+            ("strike 0", 1, f"expected {names}, not 'strike'"),
             ("  frames 1", 1, "expected a record at the line's first column; an indented line goes on with one"),
             ("open", 1, "expected voices=, and the record ends"),
             ("open 1", 1, "expected voices=, not '1'"),
@@ -104,7 +127,26 @@ class Read(unittest.TestCase):
             ),
             (opened + "    unit=s", 2, "unit: expected ms or beats, not 's'"),
             ("timing usual attack=3", 1, "expected a field (rate, tempo, scale) and =, not 'attack=3'"),
-            ("trigger x new", 1, "expected a whole number from 0 to 255, not 'x'"),
+            ("trigger", 1, f"{several}, and the record ends"),
+            ("trigger x new", 1, f"{several}, not 'x'"),
+            ("trigger 256 new", 1, f"{several}, not '256'"),
+            ("trigger 0,4-256 new", 1, f"{several}, not '0,4-256'"),
+            ("trigger 3- new", 1, f"{several}, not '3-'"),
+            ("trigger -3 new", 1, f"{several}, not '-3'"),
+            ("trigger 1-2-3 new", 1, f"{several}, not '1-2-3'"),
+            ("trigger 0,,3 new", 1, f"{comma}, not '0,,3'"),
+            ("trigger ,3 new", 1, f"{comma}, not ',3'"),
+            ("trigger 0, 3 new", 1, f"{comma}, not '0,'"),
+            ("trigger 0 ,3 new", 1, "expected new or retrigger or legato, not ',3'"),
+            ("trigger 0,7-4 new", 1, "expected the lower voice of a range first, not '0,7-4'"),
+            ("trigger 4,0,7,0 new", 1, "expected voice 0 once, not '4,0,7,0'"),
+            (opened + "trigger\n    2,1-3 new", 3, "expected voice 2 once, not '2,1-3'"),
+            ("trigger 200,200 new", 1, "expected voice 200 once, not '200,200'"),
+            ("trigger 0-64 new", 1, "expected at most 64 voices, not '0-64'"),
+            ("trigger 0-63,0 new", 1, "expected at most 64 voices, not '0-63,0'"),
+            ("trigger 0,4", 1, "expected new, retrigger or legato, and the record ends"),
+            ("trigger 0,4 old", 1, "expected new or retrigger or legato, not 'old'"),
+            ("release 0,4", 1, "expected a whole number from 0 to 255, not '0,4'"),
             ("trigger 0", 1, "expected new, retrigger or legato, and the record ends"),
             ("trigger 0 old", 1, "expected new or retrigger or legato, not 'old'"),
             ("release 0 1", 1, "expected the end of the record, not '1'"),

@@ -3,6 +3,8 @@ pub mod Frames
 pub mod Bytes
 pub mod Accepted
 pub mod Representation
+pub mod Repeats
+pub mod ChordVoices
 pub mod Answers
 pub mod Replying
 pub mod Runs

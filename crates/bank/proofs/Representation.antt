@@ -54,7 +54,7 @@ represents m b t n h =
     bank_ext (bank_of m) b (timing_of_lem m ∙ t) (size_of m ∙ n)
     (λ v i. let j : v < count_of m.codes = omega (arith, i, size_of m) in voice_of_lem m v j ∙ h v j)
 
-counts_same : (m m' : Arrays) → voices_at m'.codes ≡ voices_at m.codes → count_of m'.codes ≡ count_of m.codes
+pub counts_same : (m m' : Arrays) → voices_at m'.codes ≡ voices_at m.codes → count_of m'.codes ≡ count_of m.codes
 counts_same m m' e = ap (λ (n : ℕ). min n 64) e
 
 -- ---- one voice

@@ -1,5 +1,6 @@
 -- The bank as its calls see it: a list of voices under one clock. What each call makes of it, and the rows that its frames hand out.
 use Rattle.std.specs.Prelude.{ℕ, zero, suc, ◌*◌, ◌/◌, cond, List, [], ◌∷◌, ◌++◌, map, ltb, Float, length, get_or, set, replicate, drop}
+use Rattle.std.specs.List.{fold}
 use Rattle.std.specs.Float.{binary32}
 use Rattle.std.specs.Float.Ieee.{to_bits}
 use Rattle.numbers.specs.Bytes.{lowest_first}
@@ -88,21 +89,17 @@ idle n p t = record { timing = t; voices = replicate n (Planning.new p) }
 unfoldable pub new : Opening → Answer
 new o = let p = opened o in record { refusal = opening_refusal o; bank = idle p.voices p.params p.timing }
 
--- A note of the voice v; and one of each voice of a list, one after the other.
-abbrev pub trigger : Trigger → Bank → ℕ → Bank
-trigger x b v = put v (Voices.trigger b.timing x (voice b v)) b
-
-abbrev pub chord : Trigger → Bank → List ℕ → Bank
-chord x b [] = b
-chord x b (v ∷ vs) = chord x (trigger x b v) vs
+-- A note of the voice v.
+abbrev pub triggered : Trigger → Bank → ℕ → Bank
+triggered x b v = put v (Voices.trigger b.timing x (voice b v)) b
 
 -- The bank after an accepted call.
 unfoldable pub after_accepted : Bank → Call → Bank
 after_accepted b (Call.set_params v p) = put v (Voices.set_params b.timing p (voice b v)) b
 after_accepted b (Call.set_all_params p) = on_all (Voices.set_params b.timing p) b
 after_accepted b (Call.set_timing t) = on_all (Voices.replan t) (with_timing t b)
-after_accepted b (Call.trigger v x) = trigger x b v
-after_accepted b (Call.chord vs x) = chord x b vs
+after_accepted b (Call.trigger v x) = triggered x b v
+after_accepted b (Call.chord vs x) = fold (triggered x) b vs
 after_accepted b (Call.release v) = put v (Voices.release b.timing (voice b v)) b
 after_accepted b (Call.reset v) = put v (Voices.reset b.timing (voice b v)) b
 after_accepted b (Call.join v from) = put v (voice b from) b

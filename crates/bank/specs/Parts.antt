@@ -1,7 +1,8 @@
 -- What the bank's private functions promise each other. No public statement cites this file.
 use Rattle.std.specs.Prelude.{cond, ◌≡◌, ℕ, ◌<◌, eqb, List}
+use Rattle.std.specs.List.{fold}
 use Rattle.timing.specs.declared.Timing.{Timing}
-use Rattle.settings.specs.declared.settings.Trigger as Triggers
+use Rattle.settings.specs.declared.settings.Trigger as Kinds
 use Rattle.lane.specs.declared.lanes.Voice.{Voice}
 use Rattle.lane.specs.Planning as Planning
 use Rattle.lane.specs.Voices as Voices
@@ -11,7 +12,7 @@ use Rattle.rows.specs.Runs.{left_after}
 use Rattle.bank.specs.declared.changes.Change.{Change}
 use Rattle.bank.specs.declared.changes.Change.TheVariants.{Params, Replan, Trigger, Release, Reset, Join, Follow}
 use Rattle.bank.specs.Calls.{if_accepted, voice_refusal}
-use Rattle.bank.specs.Banks.{bank_of, known, voice, put, on_all, chord}
+use Rattle.bank.specs.Banks.{bank_of, known, voice, put, on_all, triggered}
 use Rattle.bank.specs.Lent.{Kept, KeptFrom}
 
 -- The voice after a change.
@@ -43,8 +44,8 @@ pub record All (g : Voice → Voice) (m m' : Arrays) : Type 0 where
   pub beside : KeptFrom (count_of m.codes) m m'
 
 -- Each of these voices has been triggered, one after the other.
-pub record Chord (vs : List ℕ) (x : Triggers.Trigger) (m m' : Arrays) : Type 0 where
-  pub bank : bank_of m' ≡ chord x (bank_of m) vs
+pub record Chord (vs : List ℕ) (x : Kinds.Trigger) (m m' : Arrays) : Type 0 where
+  pub bank : bank_of m' ≡ fold (triggered x) (bank_of m) vs
   pub beside : KeptFrom (count_of m.codes) m m'
 
 -- A voice whose segment has ended has what follows it.

@@ -61,6 +61,7 @@ module _ (b : Bank) (r : Histories) (s : Simulates b r) where
   accepted_reply-expected (Call.set_all_params p) a = refl
   accepted_reply-expected (Call.set_timing t) a = refl
   accepted_reply-expected (Call.trigger v x) a = refl
+  accepted_reply-expected (Call.chord vs x) a = refl
   accepted_reply-expected (Call.release v) a = refl
   accepted_reply-expected (Call.reset v) a = refl
   accepted_reply-expected (Call.join v u) a = refl

@@ -25,6 +25,7 @@ use Rattle.histories.proofs.Answers.{replies-expected}
 use Rattle.histories.proofs.Limits.{history_lead_exact}
 use Rattle.histories.proofs.Levels.{drawn-levels}
 use Rattle.histories.proofs.Blocks.{block_after_call, cut-block}
+use Rattle.histories.proofs.Chords.{chord-triggers}
 use Rattle.histories.proofs.Notes.{note-lengths}
 
 -- ---- one list
@@ -126,4 +127,4 @@ note_in_bank o cs v k h =
     among later e = stage_of later _ e ∙ (note-lengths (history_of o cs v) k).new_note
 
 pub demand3 : Demand3
-demand3 = record { one = one_list; two = two_lists; cut = cut-block; notes = note-lengths; played = note_in_bank }
+demand3 = record { one = one_list; two = two_lists; cut = cut-block; chord = chord-triggers; notes = note-lengths; played = note_in_bank }

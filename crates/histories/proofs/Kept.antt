@@ -1,6 +1,7 @@
 -- An accepted call moves each voice of the bank as its effect moves the voice's history: `kept`, a line for each call, over a law for each kind of
--- change: none, one voice, all voices, frames (by induction on them). So a call keeps the simulation relation between a bank and its histories.
-use mathlib.Core.Path.{◌≡◌, refl, ap, ◌∙◌}
+-- change: none, one voice, all voices, frames (by induction on them), the voices of a chord (by induction on its list). So a call keeps the simulation
+-- relation between a bank and its histories.
+use mathlib.Core.Path.{◌≡◌, refl, sym, ap, ◌∙◌}
 use mathlib.Core.Bool.{Bool, true, false, cond}
 use mathlib.Core.List.{List, [], ◌∷◌}
 use Prim.Native.Nat.{ℕ, zero, suc, ◌/◌, ◌<◌}
@@ -8,16 +9,19 @@ use native.Mathlib.Omega.{arith}
 use borrow.Author.Tests.{eqb-true}
 use lib.Dec.{eqb}
 use lib.ListN.{replicate}
+use Rattle.std.specs.List.{fold}
 use Rattle.timing.specs.declared.Timing.{Timing}
+use Rattle.settings.specs.declared.settings.Trigger.{Trigger}
 use Rattle.lane.specs.declared.lanes.Voice.{Voice}
 use Rattle.envelope.specs.declared.envelopes.Envelope.{Envelope}
 use Rattle.bank.specs.declared.known.Known.{Known}
 use Rattle.bank.specs.Calls.{Call, learned, refusal}
 use Rattle.rows.specs.Strides.{stride_of}
-use Rattle.bank.specs.Banks.{Bank, voice, size, known, envelope, put, on_all, with_timing, frame, frames, after_accepted}
+use Rattle.bank.specs.Banks.{Bank, voice, size, known, envelope, put, on_all, with_timing, frame, frames, triggered, after_accepted}
 use Rattle.bank.proofs.Frames.{size-put, voice-put, size-on_all, voice-on_all}
 use Rattle.bank.proofs.Accepted.{voice_there}
-use Rattle.histories.specs.Demand.{Entry, run, step, Effect, enter, copy, only, effect}
+use Rattle.histories.specs.Demand.{Entry, run, step, Effect, enter, copy, only, chord_entries, effect}
+use Rattle.histories.proofs.Lists.{run-append}
 
 -- What an effect copies from is one of n voices.
 abbrev pub Live : ℕ → Effect → Type 0
@@ -93,6 +97,31 @@ kept-frames (suc n) b =
           then.at w i ∙ ap (λ (e : Envelope). run step e (replicate n Entry.frame)) (now.at w h);
     }
 
+-- The voices of a chord are triggered, one after the other.
+pub kept-chord : (x : Trigger) (vs : List ℕ) (b : Bank) → Kept b (λ w. enter (chord_entries x vs w)) (known b) (fold (triggered x) b vs)
+unfolding step
+kept-chord x [] b = none b
+kept-chord x (v ∷ vs) b =
+    let now : Kept b (λ w. only v w (enter (Entry.trigger x ∷ []))) (known b) (triggered x b v) = one b v _ (enter (Entry.trigger x ∷ [])) tt refl in
+    let then : Kept (triggered x b v) (λ w. enter (chord_entries x vs w)) (known (triggered x b v)) (fold (triggered x) (triggered x b v) vs) =
+    kept-chord x vs (triggered x b v)
+    in
+    record {
+      knows = then.knows ∙ now.knows;
+      voices = then.voices ∙ now.voices;
+      live = λ w. tt;
+      at = λ w h.
+          let i : w < size (triggered x b v) = omega (arith, now.voices) in
+          then.at w i
+          ∙ ap (λ (e : Envelope). run step e (chord_entries x vs w)) (now.at w h ∙ entered w (eqb w v))
+          ∙ sym (run-append step (envelope b w) (cond (eqb w v) (Entry.trigger x ∷ []) []) (chord_entries x vs w));
+    }
+  where
+    entered : (w : ℕ) (t : Bool)
+        → acted (envelope b) w (cond t (enter (Entry.trigger x ∷ [])) (enter [])) ≡ run step (envelope b w) (cond t (Entry.trigger x ∷ []) [])
+    entered w true = refl
+    entered w false = refl
+
 -- An accepted call.
 pub kept : (b : Bank) (c : Call) → refusal (known b) c ≡ 0 → Kept b (effect (known b) c) (learned (known b) c) (after_accepted b c)
 unfolding after_accepted effect refusal step
@@ -100,6 +129,7 @@ kept b (Call.set_params v p) a = one b v _ (enter (Entry.params p ∷ [])) tt re
 kept b (Call.set_all_params p) a = each b b.timing _ (Entry.params p ∷ []) (λ c. refl)
 kept b (Call.set_timing t) a = each b t _ (Entry.timing t ∷ []) (λ c. refl)
 kept b (Call.trigger v x) a = one b v _ (enter (Entry.trigger x ∷ [])) tt refl
+kept b (Call.chord vs x) a = kept-chord x vs b
 kept b (Call.release v) a = one b v _ (enter (Entry.release ∷ [])) tt refl
 kept b (Call.reset v) a = one b v _ (enter (Entry.reset ∷ [])) tt refl
 kept b (Call.join v u) a = one b v _ (copy u) (voice_there (known b) u 0 (voice_there (known b) v _ a).1).0 refl

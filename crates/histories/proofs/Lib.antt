@@ -6,6 +6,7 @@ pub mod Answers
 pub mod Limits
 pub mod Levels
 pub mod Blocks
+pub mod Chords
 pub mod Notes
 pub mod Demand
 pub mod BenchValues

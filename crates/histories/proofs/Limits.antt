@@ -9,6 +9,7 @@ use lib.ListN.{replicate}
 use lib.Ieee.{lt, of_bits}
 use Rattle.numbers.specs.Constants as Constants
 use Rattle.timing.specs.Clock as Clock
+use Rattle.settings.specs.declared.settings.Trigger.{Trigger}
 use Rattle.settings.specs.Settings.{amp}
 use Rattle.settings.specs.Refusals as Refusals
 use Rattle.settings.specs.Refusals.{time_over, rate_over}
@@ -24,7 +25,7 @@ use Rattle.bank.specs.declared.known.Known.{Known}
 use Rattle.bank.specs.Calls.{Opening, opening, Call, if_accepted, opening_refusal, opened, refusal}
 use Rattle.rows.specs.Strides.{stride_of}
 use Rattle.bank.proofs.Accepted.{voice_there}
-use Rattle.histories.specs.Demand.{Entry, Fresh, run, step, envelope_of, Effect, enter, copy, only, effect, after_effect}
+use Rattle.histories.specs.Demand.{Entry, Fresh, run, step, envelope_of, Effect, enter, copy, only, chord_entries, effect, after_effect}
 use Rattle.histories.specs.Demand.{Histories, extended, after_call, fresh_histories, histories_of, history_of, LeadExact}
 
 -- ---- what is entered
@@ -60,12 +61,21 @@ only_enters v w x p = go (eqb w v)
     go true = p
     go false = tt
 
+chord_entries_limited : (x : Trigger) (vs : List ℕ) (w : ℕ) → All (chord_entries x vs w)
+chord_entries_limited x [] w = tt
+chord_entries_limited x (v ∷ vs) w = all_append (cond (eqb w v) (Entry.trigger x ∷ []) []) (chord_entries x vs w) (go (eqb w v)) (chord_entries_limited x vs w)
+  where
+    go : (t : Bool) → All (cond t (Entry.trigger x ∷ []) [])
+    go true = (tt, tt)
+    go false = tt
+
 accepted_enters : (k : Known) (c : Call) (w : ℕ) → refusal k c ≡ 0 → Enters (effect k c w)
 unfolding refusal effect
 accepted_enters k (Call.set_params v p) w a = only_enters v w (enter (Entry.params p ∷ [])) ((voice_there k v _ a).1, tt)
 accepted_enters k (Call.set_all_params p) w a = (a, tt)
 accepted_enters k (Call.set_timing t) w a = (a, tt)
 accepted_enters k (Call.trigger v x) w a = only_enters v w (enter (Entry.trigger x ∷ [])) (tt, tt)
+accepted_enters k (Call.chord vs x) w a = chord_entries_limited x vs w
 accepted_enters k (Call.release v) w a = only_enters v w (enter (Entry.release ∷ [])) (tt, tt)
 accepted_enters k (Call.reset v) w a = only_enters v w (enter (Entry.reset ∷ [])) (tt, tt)
 accepted_enters k (Call.join v u) w a = only_enters v w (copy u) tt

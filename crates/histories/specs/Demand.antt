@@ -1,6 +1,7 @@
 -- Demand 3: every voice of a bank plays the envelope of its own history. One claim over whole lists of calls, from its terms, first to last, to
 -- `Demand3`. Its proof is `demand3` in proofs/Demand.antt.
-use Rattle.std.specs.Prelude.{◌≡◌, cond, true, false, List, [], ◌∷◌, ◌++◌, ◌≢◌, ℕ, zero, suc, ◌+◌, ◌*◌, ◌-◌, ◌/◌, ◌≤◌, ◌<◌, eqb, length, get_or, replicate, Float}
+use Rattle.std.specs.Prelude.{◌≡◌, cond, true, false, List, [], ◌∷◌, ◌++◌, ◌≢◌, ℕ, zero, suc, ◌+◌, ◌*◌, ◌-◌, ◌/◌, ◌≤◌, ◌<◌, eqb, length, get_or, map, replicate, Float}
+use Rattle.std.specs.List.{flat_map}
 use Rattle.std.specs.Float.{nan}
 use Rattle.numbers.specs.Constants as Constants
 use Rattle.timing.specs.declared.Timing.{Timing}
@@ -105,6 +106,10 @@ pub data Effect : Type 0 where
 abbrev pub only : ℕ → ℕ → Effect → Effect
 only v w x = cond (eqb w v) x (enter [])
 
+-- What a chord enters for the voice w: one trigger for each time that the list names w.
+abbrev pub chord_entries : Trigger → List ℕ → ℕ → List Entry
+chord_entries x vs w = flat_map (λ v. cond (eqb w v) (Entry.trigger x ∷ []) []) vs
+
 -- The effect of an accepted call, after what is known, on the voice w. 'Settings for all enter each voice as a settings entry does.' A join throws
 -- away v's entries so far and puts those of `from` in their place, which keeps them where v is `from`. A process enters its frames, a reading
 -- nothing.
@@ -113,6 +118,7 @@ effect k (Call.set_params v p) w = only v w (enter (Entry.params p ∷ []))
 effect k (Call.set_all_params p) w = enter (Entry.params p ∷ [])
 effect k (Call.set_timing t) w = enter (Entry.timing t ∷ [])
 effect k (Call.trigger v x) w = only v w (enter (Entry.trigger x ∷ []))
+effect k (Call.chord vs x) w = enter (chord_entries x vs w)
 effect k (Call.release v) w = only v w (enter (Entry.release ∷ []))
 effect k (Call.reset v) w = only v w (enter (Entry.reset ∷ []))
 effect k (Call.join v from) w = only v w (copy from)
@@ -281,6 +287,16 @@ pub record Cut (o : Opening) (pre post : List Call) (a c : ℕ) : Type 0 where
       (out₁ out₂ : List Float) → length out₁ ≡ a * stride o → length out₂ ≡ c * stride o
       → written_after o pre (out₁ ++ out₂) ≡ written_after o pre out₁ ++ written_after o (pre ++ block o a ∷ []) out₂
 
+-- The single triggers of a chord, in the order of its list.
+abbrev pub single_triggers : List ℕ → Trigger → List Call
+single_triggers vs x = map (λ v. Call.trigger v x) vs
+
+-- An accepted chord anywhere in a list, and its single triggers in its place: the same bank and histories, and the same replies from there on.
+pub record ChordIsTriggers (o : Opening) (pre post : List Call) (vs : List ℕ) (x : Trigger) : Type 0 where
+  pub bank : bank_after o (pre ++ Call.chord vs x ∷ post) ≡ bank_after o (pre ++ single_triggers vs x ++ post)
+  pub histories : histories_of o (pre ++ Call.chord vs x ∷ post) ≡ histories_of o (pre ++ single_triggers vs x ++ post)
+  pub replies : replies_from (bank_after o (pre ++ Call.chord vs x ∷ [])) post ≡ replies_from (bank_after o (pre ++ single_triggers vs x)) post
+
 -- The place: the sample of its curve, from 0, that an attack begins with which follows a delay at this level.
 unfoldable pub place : EnvelopeParams → Timing → Float → ℕ
 place p t level = (join_attack p level (spec p Attack t level)).pos
@@ -329,10 +345,13 @@ pub record NoteInBank (o : Opening) (cs : List Call) (v k : ℕ) : Type 0 where
       (later : List Call) → history_of o later v ≡ frames_more k (more (history_of o cs v) (Entry.trigger New ∷ []))
       → stage_at o later v ≡ stage_after (settings_of (history_of o cs v)) (timing_of (history_of o cs v)) 0 k
 
--- Demand 3, whole: of every list, of every two voices, of every cut of a block, of the note's lengths in a history, and of those in a bank.
+-- Demand 3, whole: of every list, of every two voices, of every cut of a block, of every chord and its single triggers, of the note's lengths in a
+-- history, and of those in a bank.
 pub record Demand3 : Type 0 where
   pub one : (o : Opening) (cs : List Call) → OneList o cs
   pub two : (o₁ o₂ : Opening) (cs₁ cs₂ : List Call) (v w : ℕ) → v < voices_of o₁ → w < voices_of o₂ → TwoLists o₁ o₂ cs₁ cs₂ v w
   pub cut : (o : Opening) (pre post : List Call) (a c : ℕ) → Cut o pre post a c
+  pub chord :
+      (o : Opening) (pre post : List Call) (vs : List ℕ) (x : Trigger) → refusal_after o pre (Call.chord vs x) ≡ 0 → ChordIsTriggers o pre post vs x
   pub notes : (h : History) (k : ℕ) → NoteLengths h k
   pub played : (o : Opening) (cs : List Call) (v k : ℕ) → v < voices_of o → NoteInBank o cs v k

@@ -1,0 +1,22 @@
+-- `worfelli_live_chord`: with every code named, what the bank's own `chord` ensures of the chord; else 10, and the bank is not called. These
+-- are the two cases of `answer`.
+use mathlib.Core.Path.{refl, ap, ◌∙◌}
+use Rattle.settings.specs.Refusals.{number}
+use Rattle.worfelli.specs.Live.{answer}
+use Rattle.worfelli.proofs.calls.worfelli_live_chord.Goals as goal
+
+pub returns-in-Ok-clause-refusal : goal.returns-in-Ok-clause-refusal
+unfolding answer
+returns-in-Ok-clause-refusal c = rw (c.in-Ok.ensures.0, ← c.in-Ok.ensures.1) (c.number_of.ensures ∙ c.chord.ensures.refusal)
+
+pub returns-in-Ok-clause-bank : goal.returns-in-Ok-clause-bank
+unfolding answer
+returns-in-Ok-clause-bank c = rw (c.in-Ok.ensures.0, ← c.in-Ok.ensures.1) c.chord.ensures.bank
+
+pub returns-in-Err-clause-refusal : goal.returns-in-Err-clause-refusal
+unfolding answer
+returns-in-Err-clause-refusal c = rw c.in-Err.ensures.0 (c.number.ensures ∙ ap number c.in-Err.ensures.1)
+
+pub returns-in-Err-clause-bank : goal.returns-in-Err-clause-bank
+unfolding answer
+returns-in-Err-clause-bank c = rw c.in-Err.ensures.0 refl
