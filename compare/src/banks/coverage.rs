@@ -187,12 +187,7 @@ impl Coverage {
                 self.met(bank, from, "joined by another");
             }
             Call::Trigger(voice, trigger) => self.met(bank, voice, kind(bank, voice, trigger)),
-            Call::Chord(ref voices, trigger) => {
-                for voice in voices {
-                    let kind = format!("{} by a chord", kind(bank, *voice, trigger));
-                    self.met(bank, *voice, &kind);
-                }
-            }
+            Call::Chord(ref voices, trigger) => self.met_by_chord(bank, voices, trigger),
             Call::Settings(voice, _)
             | Call::Release(voice)
             | Call::Reset(voice)
@@ -204,6 +199,13 @@ impl Coverage {
         if let Some(kind) = KINDS.iter().position(|kind| *kind == name) {
             let stage = stage_number(bank.stage(voice as usize));
             self.met[stage as usize][kind] += 1;
+        }
+    }
+
+    fn met_by_chord(&mut self, bank: &EnvelopeBank, voices: &[u64], trigger: Trigger) {
+        for voice in voices {
+            let kind = format!("{} by a chord", kind(bank, *voice, trigger));
+            self.met(bank, *voice, &kind);
         }
     }
 

@@ -1,5 +1,6 @@
-//! Which calls on a bank are refused, by document 01's numbers and read from
-//! the calls alone: how many voices there are follows from the opening.
+//! Which calls on a bank are refused, by document 01's numbers, of chords by
+//! 02's, and read from the calls alone: how many voices there are follows from
+//! the opening.
 
 use std::collections::HashSet;
 

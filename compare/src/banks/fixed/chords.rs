@@ -36,34 +36,42 @@ fn settings(voice: u64) -> EnvelopeParams {
     }
 }
 
-/// A bank whose voice v is in the middle of the stage v modulo 7.
-fn in_every_stage(case: &mut Case, voices: u64) {
+/// The stage in which the cases have a voice.
+fn stage(voice: u64) -> Stage {
+    STAGES[voice as usize % 7]
+}
+
+/// A bank of idle voices with their settings.
+fn idle(case: &mut Case, voices: u64) {
     case.open(voices, SETTINGS);
     for voice in 0..voices {
         case.set(voice, settings(voice));
     }
-    let notes = [
-        ([Stage::Sustain, Stage::Release].as_slice(), 30),
-        (&[Stage::Decay], 20),
-        (&[Stage::Hold], 20),
-        (&[Stage::Attack], 20),
-        (&[Stage::Delay], 0),
-    ];
-    for (stages, frames) in notes {
-        for voice in (0..voices).filter(|voice| stages.contains(&stage(*voice))) {
-            case.note(voice);
-        }
-        case.frames(frames);
-    }
-    for voice in (0..voices).filter(|voice| stage(*voice) == Stage::Release) {
-        case.ask(Call::Release(voice));
-    }
-    case.frames(10);
 }
 
-/// The stage in which that bank's voice is.
-fn stage(voice: u64) -> Stage {
-    STAGES[voice as usize % 7]
+/// A call on each voice that the cases have in this stage.
+fn on_each(case: &mut Case, voices: u64, of: Stage, call: fn(u64) -> Call) {
+    for voice in (0..voices).filter(|voice| stage(*voice) == of) {
+        case.ask(call(voice));
+    }
+}
+
+/// A bank whose voices are in the middle of their stages.
+fn in_every_stage(case: &mut Case, voices: u64) {
+    idle(case, voices);
+    for (of, frames) in [
+        (Stage::Sustain, 20),
+        (Stage::Release, 10),
+        (Stage::Decay, 20),
+        (Stage::Hold, 20),
+        (Stage::Attack, 20),
+        (Stage::Delay, 0),
+    ] {
+        on_each(case, voices, of, |voice| Call::Trigger(voice, Trigger::New));
+        case.frames(frames);
+    }
+    on_each(case, voices, Stage::Release, Call::Release);
+    case.frames(10);
 }
 
 /// The numbers below a power of 2, in another order. Of 64 the first and the
@@ -72,7 +80,7 @@ fn scattered(count: u64) -> Vec<u64> {
     (0..count).map(|at| (7 + 43 * at) % count).collect()
 }
 
-/// Whether a chord on that bank leaves what single triggers leave, after it and
+/// Whether a chord on such a bank leaves what single triggers leave, after it and
 /// three frames later.
 fn is_single_triggers(case: &mut Case, voices: u64, named: &[u64], trigger: Trigger) -> bool {
     in_every_stage(case, voices);
@@ -208,7 +216,8 @@ pub(super) fn twice_and_missing(case: &mut Case) -> bool {
     .all(|named| keeps(case, named, CHORD))
 }
 
-/// Chords of three voices between blocks: a list that is short.
+/// Chords on three voices between blocks, in a list that is short enough to be
+/// stored.
 pub(super) fn short(case: &mut Case) -> bool {
     case.open(3, SAMPLE);
     case.chord(&[2, 0], Trigger::New);
@@ -219,10 +228,12 @@ pub(super) fn short(case: &mut Case) -> bool {
     case.frames(3);
     let went_on = case.stands(2, Stage::Decay, 1.0) && case.stands(1, Stage::Attack, 0.25);
     case.chord(&[], Trigger::New);
+    let long: Vec<u64> = (0..65).collect();
     let refused = [
         ([0, 0].as_slice(), CHORD),
         (&[9, 1, 9], CHORD),
         (&[3, 1, 1], CHORD),
+        (&long, CHORD),
         (&[0, 1, 3], VOICE),
     ];
     let answered = refused.iter().all(|(named, number)| {

@@ -77,7 +77,7 @@ fn lengthen(random: &mut Random, named: &mut Vec<u64>) {
         0 => MOST + random.below(MOST_ENTRIES as u64 - MOST + 1),
         _ => MOST + 1,
     };
-    let first = random.below(2) * (random.bits() >> 1);
+    let first = if random.coin() { 0 } else { random.bits() >> 1 };
     *named = (first..first + length).collect();
 }
 
