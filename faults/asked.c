@@ -28,14 +28,22 @@ static double double_of(uint64_t bits)
     return number;
 }
 
+#define OTHERS ((size_t)12)
+
+/* A number that few banks have a voice of. */
+static size_t other_voice(size_t choice, size_t voices)
+{
+    const size_t others[OTHERS] = {voices, voices + 1, 63, 64, 65, 255, (size_t)1 << 32, SIZE_MAX / 14 + 1,
+                                   SIZE_MAX / 5 + 1, (size_t)1 << 63, SIZE_MAX - 1, SIZE_MAX};
+    return others[choice % OTHERS];
+}
+
 /* A voice that the bank has, seldom another. */
 static size_t take_voice(struct bytes *bytes, size_t voices)
 {
     const size_t choice = take(bytes, 1);
-    const size_t others[12] = {voices, voices + 1, 63, 64, 65, 255, (size_t)1 << 32, SIZE_MAX / 14 + 1,
-                               SIZE_MAX / 5 + 1, (size_t)1 << 63, SIZE_MAX - 1, SIZE_MAX};
-    if (choice >= 256 - COUNT(others))
-        return others[choice - (256 - COUNT(others))];
+    if (choice >= 256 - OTHERS)
+        return other_voice(choice - (256 - OTHERS), voices);
     return voices > 0 ? choice % voices : choice;
 }
 
@@ -106,6 +114,48 @@ static void take_block(struct bytes *bytes, size_t voices, struct asked *asked)
     asked->cut = take(bytes, 2) % (asked->levels / stride + 1) * stride;
 }
 
+/* 0 and the numbers after it. */
+static void count_up(size_t *numbers, size_t count)
+{
+    for (size_t i = 0; i < count; i++)
+        numbers[i] = i;
+}
+
+/* Each of a chord's entries is exchanged for one of those from it on, of so many. */
+static void take_order(struct bytes *bytes, size_t count, struct asked *asked)
+{
+    for (size_t i = 0; i < asked->entries; i++) {
+        const size_t other = i + take(bytes, 1) % (count - i), voice = asked->chord[other];
+        asked->chord[other] = asked->chord[i];
+        asked->chord[i] = voice;
+    }
+}
+
+/* In up to three places stands what stands in another one, or a number that few banks have. */
+static void spoil_chord(struct bytes *bytes, size_t voices, struct asked *asked)
+{
+    for (size_t left = 1 + take(bytes, 1) % 3; left > 0; left--) {
+        const size_t at = take(bytes, 1) % asked->entries, choice = take(bytes, 1);
+        asked->chord[at] = choice < 128 ? asked->chord[choice % asked->entries] : other_voice(choice, voices);
+    }
+}
+
+/* Voices that the bank has, each once, in any order. Seldom as many as a bank can have, or more; seldom one twice,
+ * or one that the bank does not have. */
+static void take_chord(struct bytes *bytes, size_t voices, struct asked *asked)
+{
+    const size_t style = take(bytes, 1), number = take(bytes, 1);
+    const size_t long_one = style % 16 == 0 ? MOST_ENTRIES - number : style % 16 == 8 ? 63 + number % 4 : 0;
+    const size_t count = long_one > voices ? long_one : voices;
+    asked->entries = long_one > 0 ? long_one : number % (voices + 1);
+    count_up(asked->chord, count);
+    take_order(bytes, count, asked);
+    if (style >= 192 && asked->entries > 0)
+        spoil_chord(bytes, voices, asked);
+    asked->cut = take(bytes, 1) % (asked->entries + 1);
+    asked->trigger = take_code(bytes, 3);
+}
+
 struct asked next_opening(struct bytes *bytes)
 {
     struct asked asked = {.kind = ASK_OPEN};
@@ -120,7 +170,7 @@ static enum ask take_kind(struct bytes *bytes, int any_content)
 {
     static const enum ask kinds[32] = {
         ASK_PROCESS, ASK_PROCESS, ASK_PROCESS, ASK_PROCESS, ASK_PROCESS, ASK_PROCESS, ASK_TRIGGER, ASK_TRIGGER,
-        ASK_TRIGGER, ASK_TRIGGER, ASK_TRIGGER, ASK_RELEASE, ASK_RELEASE, ASK_RELEASE, ASK_SET_PARAMS, ASK_SET_PARAMS,
+        ASK_TRIGGER, ASK_CHORD, ASK_CHORD, ASK_RELEASE, ASK_RELEASE, ASK_RELEASE, ASK_SET_PARAMS, ASK_SET_PARAMS,
         ASK_SET_PARAMS, ASK_SET_TIMING, ASK_SET_TIMING, ASK_JOIN, ASK_JOIN, ASK_RESET, ASK_SET_ALL_PARAMS, ASK_OPEN,
         ASK_PARAMS, ASK_STAGE, ASK_LEVEL, ASK_IS_IDLE, ASK_TAIL, ASK_LEAD, PUT_BYTES, PUT_ALL};
     const enum ask kind = kinds[take(bytes, 1) % 32];
@@ -137,6 +187,7 @@ struct asked next_asked(struct bytes *bytes, size_t voices, int any_content)
     case ASK_SET_TIMING: asked.timing = take_timing(bytes); break;
     case ASK_TRIGGER: asked.voice = take_voice(bytes, voices); asked.trigger = take_code(bytes, 3); break;
     case ASK_JOIN: asked.voice = take_voice(bytes, voices); asked.from = take_voice(bytes, voices); break;
+    case ASK_CHORD: take_chord(bytes, voices, &asked); break;
     case ASK_PROCESS: take_block(bytes, voices, &asked); break;
     case PUT_BYTES: case PUT_ALL: break;
     default: asked.voice = take_voice(bytes, voices); break;
@@ -192,7 +243,8 @@ static int has_settings(enum ask kind)
 
 static int has_voice(enum ask kind)
 {
-    return kind != ASK_OPEN && kind != ASK_SET_ALL_PARAMS && kind != ASK_SET_TIMING && kind != ASK_PROCESS;
+    return kind != ASK_OPEN && kind != ASK_SET_ALL_PARAMS && kind != ASK_SET_TIMING && kind != ASK_CHORD &&
+           kind != ASK_PROCESS;
 }
 
 static int unnamed(const worfelli_params *p)
@@ -206,17 +258,39 @@ static int time_over(const worfelli_params *p)
     return p->delay > LIMIT || p->attack > LIMIT || p->hold > LIMIT || p->decay > LIMIT || p->release > LIMIT;
 }
 
+/* The numbers alone are looked at, whether or not the bank has such voices. */
+static int names_twice(const struct asked *asked)
+{
+    int twice = 0;
+    for (size_t i = 0; i < asked->entries; i++)
+        for (size_t j = 0; j < i; j++)
+            twice |= asked->chord[i] == asked->chord[j];
+    return twice;
+}
+
+static int names_missing(const struct asked *asked, size_t voices)
+{
+    int missing = 0;
+    for (size_t i = 0; i < asked->entries; i++)
+        missing |= asked->chord[i] >= voices;
+    return missing;
+}
+
 uint32_t refusal_of(const struct asked *asked, size_t voices)
 {
     if (has_settings(asked->kind) && unnamed(&asked->params))
         return 10;
-    if (asked->kind == ASK_TRIGGER && asked->trigger > 2)
+    if ((asked->kind == ASK_TRIGGER || asked->kind == ASK_CHORD) && asked->trigger > 2)
         return 10;
+    if (asked->kind == ASK_CHORD && (asked->entries > 64 || names_twice(asked)))
+        return 12;
     if (asked->kind == ASK_OPEN && asked->voice > 64)
         return 1;
     if (has_voice(asked->kind) && asked->voice >= voices)
         return 2;
     if (asked->kind == ASK_JOIN && asked->from >= voices)
+        return 2;
+    if (asked->kind == ASK_CHORD && names_missing(asked, voices))
         return 2;
     if ((asked->kind == ASK_OPEN || asked->kind == ASK_SET_TIMING) && asked->timing.sample_rate > LIMIT)
         return 4;

@@ -6,6 +6,7 @@
 #include "../include/worfelli.h"
 
 #define MOST_LEVELS ((size_t)1 << 16) /* of a block */
+#define MOST_ENTRIES ((size_t)300)    /* of a chord: more than a bank has voices, and than a byte counts */
 
 enum ask {
     ASK_OPEN,
@@ -16,6 +17,7 @@ enum ask {
     ASK_RELEASE,
     ASK_RESET,
     ASK_JOIN,
+    ASK_CHORD,
     ASK_PROCESS,
     ASK_PARAMS, /* from here on, what changes no bank */
     ASK_STAGE,
@@ -36,7 +38,9 @@ struct asked {
     worfelli_params params;
     worfelli_timing timing;
     size_t levels;
-    size_t cut; /* levels before which a block may be cut in two: whole frames */
+    size_t entries; /* of a chord, and its voices */
+    size_t chord[MOST_ENTRIES];
+    size_t cut; /* levels before which a block may be cut in two, whole frames; entries of a chord likewise */
 };
 
 /* The bytes of an input that are left. */

@@ -11,6 +11,7 @@ struct functions {
     __typeof__(worfelli_live_set_all_params) *set_all_params;
     __typeof__(worfelli_live_set_timing) *set_timing;
     __typeof__(worfelli_live_trigger) *trigger;
+    __typeof__(worfelli_live_chord) *chord;
     __typeof__(worfelli_live_release) *release, *reset;
     __typeof__(worfelli_live_join) *join;
     __typeof__(worfelli_live_process) *process;
@@ -22,9 +23,9 @@ struct functions {
 };
 
 #define FUNCTIONS(of) \
-    { of##_open, of##_set_params, of##_set_all_params, of##_set_timing, of##_trigger, of##_release, of##_reset, \
-      of##_join, of##_process, of##_voices, of##_stride, of##_params, of##_stage, of##_is_idle, of##_level, of##_tail, \
-      of##_lead }
+    { of##_open, of##_set_params, of##_set_all_params, of##_set_timing, of##_trigger, of##_chord, of##_release, \
+      of##_reset, of##_join, of##_process, of##_voices, of##_stride, of##_params, of##_stage, of##_is_idle, \
+      of##_level, of##_tail, of##_lead }
 
 static const struct functions library = FUNCTIONS(worfelli_live);
 #ifdef GUIDE
@@ -33,6 +34,7 @@ extern __typeof__(worfelli_live_set_params) guide_live_set_params;
 extern __typeof__(worfelli_live_set_all_params) guide_live_set_all_params;
 extern __typeof__(worfelli_live_set_timing) guide_live_set_timing;
 extern __typeof__(worfelli_live_trigger) guide_live_trigger;
+extern __typeof__(worfelli_live_chord) guide_live_chord;
 extern __typeof__(worfelli_live_release) guide_live_release, guide_live_reset;
 extern __typeof__(worfelli_live_join) guide_live_join;
 extern __typeof__(worfelli_live_process) guide_live_process;
@@ -60,35 +62,40 @@ static struct {
     const struct asked *asked;
     const float *numbers;
     const uint32_t *named;
+    const size_t *chord;
     float *told_numbers, *out, *level;
     uint32_t *told_named, *word;
     uint64_t *frames;
     worfelli_params read; /* what the header's function wrote */
-    size_t levels;
+    size_t levels, entries;
     uint32_t refusal;
 } call;
 
-static struct pages numbers, named, told_long, told_short;
+static struct pages numbers, named, chord, told_long, told_short;
 
 #define TOLD_LONG (11 * sizeof(float) + BESIDE)
 #define TOLD_SHORT (3 * sizeof(uint32_t) + BESIDE)
 
-/* Where settings come from, and readings go to. */
+/* Where settings and a chord's voices come from, and readings go to. */
 static void set_pointers(enum side side)
 {
     const struct asked *a = call.asked;
     const float n[11] = WORFELLI_NUMBERS(&a->params);
     const uint32_t c[3] = WORFELLI_NAMED(&a->params);
+    const size_t chord_len = a->entries * sizeof *a->chord;
     if (numbers.first == NULL) {
         numbers = fenced("the settings' numbers", sizeof n);
         named = fenced("the settings' codes", sizeof c);
+        chord = fenced("the chord's voices", sizeof a->chord);
         told_long = fenced("what a reading writes", TOLD_LONG);
         told_short = fenced("what a reading writes", TOLD_SHORT);
     }
     memcpy(part(&numbers, side, sizeof n), n, sizeof n);
     memcpy(part(&named, side, sizeof c), c, sizeof c);
+    memcpy(part(&chord, side, chord_len), a->chord, chord_len);
     call.numbers = shown(&numbers, part(&numbers, side, sizeof n));
     call.named = shown(&named, part(&named, side, sizeof c));
+    call.chord = shown(&chord, part(&chord, side, chord_len));
     call.told_numbers = (float *)(void *)part(&told_long, side, sizeof n);
     call.frames = (uint64_t *)(void *)part(&told_long, side, sizeof(uint64_t));
     call.told_named = (uint32_t *)(void *)part(&told_short, side, sizeof c);
@@ -115,6 +122,7 @@ static uint32_t by_exports(void)
     case ASK_RELEASE: return by->release(h->to, a->voice);
     case ASK_RESET: return by->reset(h->to, a->voice);
     case ASK_JOIN: return by->join(h->to, a->voice, a->from);
+    case ASK_CHORD: return by->chord(h->to, call.chord, call.entries, a->trigger);
     case ASK_PROCESS: return by->process(h->to, call.out, call.levels);
     case ASK_PARAMS: return by->params(h->from, a->voice, call.told_numbers, call.told_named);
     case ASK_STAGE: return by->stage(h->from, a->voice, call.word);
@@ -140,6 +148,7 @@ static uint32_t by_header(void)
     case ASK_RELEASE: return worfelli_bank_release(to, a->voice);
     case ASK_RESET: return worfelli_bank_reset(to, a->voice);
     case ASK_JOIN: return worfelli_bank_join(to, a->voice, a->from);
+    case ASK_CHORD: return worfelli_bank_chord(to, call.chord, call.entries, a->trigger);
     case ASK_PROCESS: return worfelli_bank_process(to, call.out, call.levels);
     case ASK_PARAMS: return worfelli_bank_params(from, a->voice, &call.read);
     case ASK_STAGE: return worfelli_bank_stage(from, a->voice, call.word);
@@ -238,6 +247,23 @@ static void process(unsigned mode, int cut)
     see_output();
 }
 
+/* A note for each entry that a chord was cut before. */
+static void trigger_rest(void *with)
+{
+    const struct functions *by = functions_of(call.holder);
+    (void)with;
+    for (size_t i = call.entries; i < call.asked->entries; i++)
+        call.refusal |= by->trigger(holders[call.holder].to, call.chord[i], call.asked->trigger);
+}
+
+static void start_chord(unsigned mode, int cut)
+{
+    call.entries = cut ? call.asked->cut : call.asked->entries;
+    run(mode, make, NULL);
+    if (cut && call.refusal == 0)
+        run(mode, trigger_rest, NULL);
+}
+
 /* Moves what a call told to `to`, and puts what was before in its place. */
 static void move(void *to, void *from, size_t len)
 {
@@ -283,6 +309,8 @@ struct told make_call(size_t holder, const struct asked *asked, unsigned mode, i
     set_pointers(side);
     if (asked->kind == ASK_PROCESS)
         process(mode, cut);
+    else if (asked->kind == ASK_CHORD)
+        start_chord(mode, cut);
     else
         run(mode, make, NULL);
     told.refusal = call.refusal;

@@ -24,7 +24,8 @@ struct reading {
 size_t voices_of(size_t holder);
 size_t stride_of(size_t holder);
 
-/* Makes a call in a floating-point mode, with `cut` a block in two. Sees that nothing beside what it may write
+/* Makes a call in a floating-point mode, with `cut` a block in two, and a chord as a shorter one and single
+ * triggers. Sees that nothing beside what it may write
  * was written, and nothing at all if it is refused, the bank apart. What it did not write is as before in
  * what it told. */
 struct told make_call(size_t holder, const struct asked *asked, unsigned mode, int cut);

@@ -3,8 +3,8 @@
  * An input's first byte chooses the floating-point mode and how the bank begins: fresh, or of any bytes.
  * The rest is read as calls (asked.c), each made on every holder of the bank (banks.h): in pieces of memory
  * between inaccessible pages, on the stack that the header grants, so that what is read or written elsewhere
- * is caught. After each call the holders have to agree, though the second one's blocks are cut in two. On a
- * broken promise it prints one line and aborts. */
+ * is caught. After each call the holders have to agree, though the second one's blocks are cut in two, and its
+ * chords in a shorter one and single triggers. On a broken promise it prints one line and aborts. */
 #include <inttypes.h>
 #include <stdio.h>
 #include <stdlib.h>
@@ -144,12 +144,20 @@ static int same_readings(const struct reading *a, const struct reading *b)
            same_floats(&a->level, &b->level, 1);
 }
 
-/* A call of one voice leaves the others as they were. */
-static void see_others(size_t voice)
+static int names(const struct asked *asked, size_t voice)
+{
+    int named = asked->kind != ASK_CHORD && asked->voice == voice;
+    for (size_t i = 0; i < asked->entries; i++)
+        named |= asked->chord[i] == voice;
+    return named;
+}
+
+/* A call of some voices leaves the others as they were. */
+static void see_others(const struct asked *asked)
 {
     for (size_t v = 0; v < now.voices; v++)
-        if (v != voice && !same_readings(&now.readings[v], &now.readings_before[v]))
-            broken("a call of voice %zu changed voice %zu", voice, v);
+        if (!names(asked, v) && !same_readings(&now.readings[v], &now.readings_before[v]))
+            broken("call %d changed voice %zu, which it does not name", (int)asked->kind, v);
 }
 
 static void see_join(size_t voice, size_t from)
@@ -188,8 +196,8 @@ static void see_fresh(const struct asked *asked)
 /* What a call that was accepted promises by itself. */
 static void see_accepted(const struct asked *asked)
 {
-    if (asked->kind == ASK_SET_PARAMS || (asked->kind >= ASK_TRIGGER && asked->kind <= ASK_JOIN))
-        see_others(asked->voice);
+    if (asked->kind == ASK_SET_PARAMS || (asked->kind >= ASK_TRIGGER && asked->kind <= ASK_CHORD))
+        see_others(asked);
     switch (asked->kind) {
     case ASK_OPEN:
         if (now.voices != asked->voice)

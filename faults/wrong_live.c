@@ -1,4 +1,4 @@
-/* Live banks with one fault each, to see that the fuzz target notices it. WRONG, 1 to 34, chooses the fault;
+/* Live banks with one fault each, to see that the fuzz target notices it. WRONG, 1 to 47, chooses the fault;
  * the linker puts these in place of the library's functions (--wrap). */
 #include <math.h>
 #include <string.h>
@@ -10,6 +10,7 @@
 REAL(open);
 REAL(set_params);
 REAL(trigger);
+REAL(chord);
 REAL(release);
 REAL(reset);
 REAL(join);
@@ -56,6 +57,74 @@ uint32_t __wrap_worfelli_live_trigger(worfelli_bank *bank, size_t voice, uint32_
 {
     /* 7: a kind that names nothing is legato. */
     return __real_worfelli_live_trigger(bank, voice, WRONG == 7 && kind > 2 ? 2 : kind);
+}
+
+/* The first refusal of so many triggers one by one. */
+static uint32_t one_by_one(worfelli_bank *bank, const size_t *voices, size_t count, uint32_t kind)
+{
+    uint32_t refusal = 0;
+    for (size_t i = 0; i < count && refusal == 0; i++)
+        refusal = __real_worfelli_live_trigger(bank, voices[i], kind);
+    return refusal;
+}
+
+/* Only the low halves of a chord's numbers are looked at. */
+static uint32_t by_halves(worfelli_bank *bank, const size_t *voices, size_t count, uint32_t kind)
+{
+    size_t halves[WORFELLI_MAX_VOICES];
+    for (size_t i = 0; i < count && count <= WORFELLI_MAX_VOICES; i++)
+        halves[i] = (uint32_t)voices[i];
+    return __real_worfelli_live_chord(bank, count <= WORFELLI_MAX_VOICES ? halves : voices, count, kind);
+}
+
+/* What refuses a chord, but for 2 in place of 12 where a voice is missing. */
+static uint32_t missing_first(const worfelli_bank *bank, const size_t *voices, size_t count, uint32_t refusal)
+{
+    const size_t there = __real_worfelli_live_voices(bank);
+    for (size_t i = 0; i < count && refusal == 12; i++)
+        refusal = voices[i] >= there ? 2 : 12;
+    return refusal;
+}
+
+/* The chord, or with 35 to 39 another one. */
+static uint32_t some_chord(worfelli_bank *bank, const size_t *voices, size_t count, uint32_t kind)
+{
+    switch (WRONG) {
+    case 35: return by_halves(bank, voices, count, kind);
+    case 36: /* only the low byte of the count is looked at */
+        return __real_worfelli_live_chord(bank, voices, count % 256, kind);
+    case 37: /* a kind that names nothing is new */
+        return __real_worfelli_live_chord(bank, voices, count, kind > 2 ? 0 : kind);
+    case 38: /* all kinds are new */
+        return __real_worfelli_live_chord(bank, voices, count, kind > 2 ? kind : 0);
+    case 39: /* leaves the last voice out */
+        return __real_worfelli_live_chord(bank, voices, count > 1 ? count - 1 : count, kind);
+    default: return __real_worfelli_live_chord(bank, voices, count, kind);
+    }
+}
+
+uint32_t __wrap_worfelli_live_chord(worfelli_bank *bank, const size_t *voices, size_t count, uint32_t kind)
+{
+    const uint32_t refusal = some_chord(bank, voices, count, kind);
+    const int any = refusal == 0 && count > 0;
+    const volatile size_t *entries = voices;
+    if (WRONG == 40) /* tests 2 before 12 */
+        return missing_first(bank, voices, count, refusal);
+    if (WRONG == 41 && refusal == 12 && count <= 64) /* triggers a voice twice that is named twice */
+        return one_by_one(bank, voices, count, kind);
+    if (WRONG == 42 && any && count == 64) /* refuses a chord of 64 voices */
+        return 12;
+    if (WRONG == 43 && refusal == 2) /* starts the notes before the voice that is missing */
+        one_by_one(bank, voices, count, kind);
+    if (WRONG == 44 && any) /* starts a note that is not asked for */
+        __real_worfelli_live_trigger(bank, (voices[0] + 1) % __real_worfelli_live_voices(bank), kind);
+    if (WRONG == 45) /* reads past the list */
+        (void)entries[count];
+    if (WRONG == 46) /* reads before the list */
+        (void)entries[-1];
+    if (WRONG == 47 && any) /* writes to the list */
+        *(volatile size_t *)(uintptr_t)voices = voices[0];
+    return refusal;
 }
 
 uint32_t __wrap_worfelli_live_release(worfelli_bank *bank, size_t voice)

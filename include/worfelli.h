@@ -39,7 +39,8 @@ extern "C" {
 
 /* The version of this header's types and functions. A library of another version may take other parameters
  * or lay a bank out in another way; worfelli_agrees() tells. The functions worfelli_live_... of version 1
- * took a bank's four arrays one by one; a bank lies as it did there. */
+ * took a bank's four arrays one by one; a bank lies as it did there. A new function alone makes no new version,
+ * since linking fails with a library that lacks it. */
 #define WORFELLI_VERSION 2u
 
 /* The first version whose banks lie as this one's: a stored bank of any version from it to WORFELLI_VERSION
@@ -229,9 +230,9 @@ static inline uint32_t worfelli_bank_trigger(worfelli_bank *bank, size_t voice, 
     return worfelli_live_trigger(bank, voice, kind);
 }
 
-/* A note starts on each of `count` voices, one after the other, all of the same kind: as so many calls of
- * worfelli_bank_trigger in the order of the list. Refused by 10; by 12, a voice named twice, be it there or
- * not, or over 64 of them; and by 2. A count of 0 is accepted, and starts nothing. */
+/* A note starts on each of `count` voices, all of one kind: as by so many calls of worfelli_bank_trigger in the
+ * order of the list. Refused by 10, 12 and 2, tested in this order, and then no note starts; 12 is a voice named
+ * twice, be it there or not, or a count over 64. A count of 0 is accepted. */
 static inline uint32_t worfelli_bank_chord(worfelli_bank *bank, const size_t *voices, size_t count,
                                            uint32_t kind)
 {

@@ -1,11 +1,12 @@
 /* The live host's script: key events from standard input, one a line.
  *
- *     FRAME down KEY
- *     FRAME up KEY
+ *     FRAME down KEY..
+ *     FRAME up KEY..
  *     FRAME end
  *
- * FRAME counts from 0 and never falls from line to line; KEY is 0 to 15; end is the last event. Empty
- * lines, and lines that begin with #, are skipped. What is wrong is said in one line on standard error. */
+ * FRAME counts from 0 and never falls from line to line; KEY is 0 to 15, and 1 to 16 of them go down or up
+ * together; end is the last event. Empty lines, and lines that begin with #, are skipped. What is wrong is
+ * said in one line on standard error. */
 #ifndef KEYS_H
 #define KEYS_H
 
@@ -17,15 +18,16 @@
 
 #define KEYS 16
 #define LONGEST_LINE 254
-/* An event's three, and one more that tells a line with too many. */
-#define MOST_WORDS 4
+/* Frame, action and keys, and one more that tells a line with too many. */
+#define MOST_WORDS (2 + KEYS + 1)
 
 enum key_action { KEY_DOWN, KEY_UP, KEYS_END };
 
 struct key_event {
     uint64_t frame;
     enum key_action action;
-    size_t key;
+    size_t count; /* of its keys */
+    size_t keys[KEYS];
 };
 
 /* How far the script was read: its lines, and the last event's frame. */
@@ -87,10 +89,21 @@ static int read_words(struct script *script, char *line, char **words, int *coun
     return 1;
 }
 
+/* The keys of an event. */
+static int parse_keys(const struct script *script, char **words, int count, struct key_event *event)
+{
+    uint64_t key = 0;
+    int right = count >= 1 && count <= KEYS;
+    for (event->count = 0; right && event->count < (size_t)count; event->count++) {
+        right = parse_number(words[event->count], KEYS - 1, &key);
+        event->keys[event->count] = (size_t)key;
+    }
+    return right || expected(script, "1 to 16 keys, each from 0 to 15");
+}
+
 /* What stands after the frame. */
 static int parse_action(const struct script *script, char **words, int count, struct key_event *event)
 {
-    uint64_t key = 0;
     if (count > 1 && strcmp(words[1], "end") == 0) {
         event->action = KEYS_END;
         return count == 2 || expected(script, "nothing after end");
@@ -101,10 +114,7 @@ static int parse_action(const struct script *script, char **words, int count, st
         event->action = KEY_UP;
     else
         return expected(script, "down, up or end after the frame");
-    if (count != 3 || !parse_number(words[2], KEYS - 1, &key))
-        return expected(script, "one key from 0 to 15");
-    event->key = (size_t)key;
-    return 1;
+    return parse_keys(script, words + 2, count - 2, event);
 }
 
 /* The next event. False if there is none, which has been said. */

@@ -2,9 +2,10 @@
  *
  *     live [BLOCK] <KEYS >LEVELS
  *
- * KEYS is a script of key events (keys.h); a key is a voice, which a down triggers anew and an up releases.
- * LEVELS are binary32 numbers, lowest byte first, 16 a frame. A block is at most BLOCK frames (64) and is
- * cut at an event, so that each event is exact to the frame; how long blocks are changes no level.
+ * KEYS is a script of key events (keys.h); a key is a voice. Keys that go down together are a chord, which one
+ * call triggers anew; an up releases each of its keys. LEVELS are binary32 numbers, lowest byte first, 16 a
+ * frame. A block is at most BLOCK frames (64) and is cut at an event, so that each event is exact to the frame;
+ * how long blocks are changes no level.
  *
  * Exit status: 0 played, 2 anything else. What went wrong is one line on standard error; the levels
  * before it have been written. */
@@ -48,11 +49,20 @@ static int open_bank(worfelli_bank *bank)
     return answered(worfelli_bank_open(bank, KEYS, &params, &timing));
 }
 
+static uint32_t release_keys(worfelli_bank *bank, const struct key_event *event)
+{
+    uint32_t refusal = 0;
+    size_t i;
+    for (i = 0; i < event->count && refusal == 0; i++)
+        refusal = worfelli_bank_release(bank, event->keys[i]);
+    return refusal;
+}
+
 static int send_event(worfelli_bank *bank, const struct key_event *event)
 {
     switch (event->action) {
-    case KEY_DOWN: return answered(worfelli_bank_trigger(bank, event->key, WORFELLI_NEW));
-    case KEY_UP: return answered(worfelli_bank_release(bank, event->key));
+    case KEY_DOWN: return answered(worfelli_bank_chord(bank, event->keys, event->count, WORFELLI_NEW));
+    case KEY_UP: return answered(release_keys(bank, event));
     default: return PLAYED;
     }
 }

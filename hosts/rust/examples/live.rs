@@ -1,9 +1,9 @@
 //! A live host: key events come in on standard input, blocks of levels go out on standard output.
 //!
-//! An event is a line: `FRAME down KEY`, `FRAME up KEY`, and as the last one `FRAME end`. FRAME counts from
-//! 0 and never falls; KEY, 0 to 15, is a voice, which a down triggers anew and an up releases. Empty lines,
-//! and lines that begin with #, are skipped. A level is a binary32, lowest byte first, and a frame is 16 of
-//! them.
+//! An event is a line: `FRAME down KEY..`, `FRAME up KEY..`, and as the last one `FRAME end`. FRAME counts from
+//! 0 and never falls; KEY, 0 to 15, is a voice. Keys that go down together are a chord, which one call triggers
+//! anew; an up releases each of its keys. Empty lines, and lines that begin with #, are skipped. A level is a
+//! binary32, lowest byte first, and a frame is 16 of them.
 //!
 //! A block is at most 64 frames and is cut at an event, so that each event is exact to the frame. The exit
 //! status is 0, or 2 where something went wrong. That is said in one line on standard error, and the
@@ -18,8 +18,8 @@ const KEYS: usize = 16;
 const BLOCK: usize = 64;
 
 enum Action {
-    Down(usize),
-    Up(usize),
+    Down(Vec<usize>),
+    Up(Vec<usize>),
     End,
 }
 
@@ -52,8 +52,8 @@ pub(crate) fn take(input: impl BufRead, mut output: impl Write) -> Result<(), St
         play(&mut bank, frame - now, &mut output)?;
         now = frame;
         match action {
-            Action::Down(key) => bank.trigger(key, Trigger::New).map_err(refused)?,
-            Action::Up(key) => bank.release(key).map_err(refused)?,
+            Action::Down(keys) => bank.chord(&keys, Trigger::New).map_err(refused)?,
+            Action::Up(keys) => release(&mut bank, &keys).map_err(refused)?,
             Action::End => ended = true,
         }
     }
@@ -75,6 +75,10 @@ fn open() -> Result<EnvelopeBank, Refusal> {
         ..EnvelopeParams::AMP
     };
     EnvelopeBank::new(KEYS, params, Timing::new(48_000.0))
+}
+
+fn release(bank: &mut EnvelopeBank, keys: &[usize]) -> Result<(), Refusal> {
+    keys.iter().try_for_each(|&key| bank.release(key))
 }
 
 /// The block loop. Where a sound card asks for blocks, its callback calls `process` and turns the levels
@@ -109,8 +113,8 @@ fn parse(line: &str, now: u64) -> Result<(u64, Action), String> {
         return Err(format!("a frame from {now} on"));
     }
     let action = match words.next() {
-        Some("down") => Action::Down(key(&mut words)?),
-        Some("up") => Action::Up(key(&mut words)?),
+        Some("down") => Action::Down(keys(&mut words)?),
+        Some("up") => Action::Up(keys(&mut words)?),
         Some("end") => Action::End,
         _ => return Err("down, up or end after the frame".into()),
     };
@@ -120,12 +124,16 @@ fn parse(line: &str, now: u64) -> Result<(u64, Action), String> {
     }
 }
 
-/// The last word of a line, a key.
-fn key<'a>(words: &mut impl Iterator<Item = &'a str>) -> Result<usize, String> {
-    let key = words.next().and_then(number);
-    let key = key.and_then(|key| usize::try_from(key).ok());
-    key.filter(|&key| key < KEYS && words.next().is_none())
-        .ok_or_else(|| "one key from 0 to 15".into())
+/// The last words of a line, its keys.
+fn keys<'a>(words: impl Iterator<Item = &'a str>) -> Result<Vec<usize>, String> {
+    let keys: Option<Vec<usize>> = words.map(key).collect();
+    keys.filter(|keys| (1..=KEYS).contains(&keys.len()))
+        .ok_or_else(|| "1 to 16 keys, each from 0 to 15".into())
+}
+
+fn key(word: &str) -> Option<usize> {
+    let key = usize::try_from(number(word)?).ok()?;
+    (key < KEYS).then_some(key)
 }
 
 /// A number of digits alone, where `parse` would take a plus sign too.

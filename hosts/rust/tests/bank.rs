@@ -63,6 +63,19 @@ fn apply(bank: &mut EnvelopeBank, event: Event, levels: &mut Vec<f32>) -> Result
     }
 }
 
+/// Some of so many voices, each once, in any order.
+fn some_of(random: &mut Random, voices: u8) -> Vec<usize> {
+    let mut left: Vec<usize> = (0..voices.into()).collect();
+    let count = random.below(u16::from(voices) + 1);
+    let mut pick = || left.swap_remove(usize::from(random.byte()) % left.len());
+    (0..count).map(|_| pick()).collect()
+}
+
+/// One voice more than a chord may have.
+fn too_many() -> [usize; 65] {
+    std::array::from_fn(|voice| voice)
+}
+
 /// Bits, since `==` takes -0 for +0 and NaN for nothing.
 fn bits(levels: &[f32]) -> Vec<u32> {
     levels.iter().map(|level| level.to_bits()).collect()
@@ -197,9 +210,9 @@ fn refused_openings() {
 
 #[test]
 fn refused_calls_change_nothing() {
-    use Refusal::{NoSuchVoice, NotWholeFrames, RateOver, TimeOver};
+    use Refusal::{NoSuchVoice, NotAChord, NotWholeFrames, RateOver, TimeOver};
     type Call = fn(&mut EnvelopeBank) -> Result<(), Refusal>;
-    let cases: [(Call, Refusal); 18] = [
+    let cases: [(Call, Refusal); 28] = [
         (|bank| bank.set_params(20, OVER), NoSuchVoice),
         (|bank| bank.set_params(2, OVER), TimeOver),
         (|bank| bank.set_all_params(OVER), TimeOver),
@@ -209,6 +222,25 @@ fn refused_calls_change_nothing() {
             |bank| bank.trigger(usize::MAX, Trigger::Legato),
             NoSuchVoice,
         ),
+        (|bank| bank.chord(&[20], Trigger::New), NoSuchVoice),
+        (|bank| bank.chord(&[0, 2, 20], Trigger::New), NoSuchVoice),
+        (
+            |bank| bank.chord(&[20, 0, usize::MAX], Trigger::Retrigger),
+            NoSuchVoice,
+        ),
+        (
+            |bank| bank.chord(&[2, (1 << 32) + 2], Trigger::New),
+            NoSuchVoice,
+        ),
+        (|bank| bank.chord(&[2, 2], Trigger::Legato), NotAChord),
+        (|bank| bank.chord(&[0, 1, 2, 0], Trigger::New), NotAChord),
+        (|bank| bank.chord(&[100, 100], Trigger::New), NotAChord),
+        (|bank| bank.chord(&[20, 2, 2], Trigger::New), NotAChord),
+        (
+            |bank| bank.chord(&[0, usize::MAX, 1, usize::MAX], Trigger::New),
+            NotAChord,
+        ),
+        (|bank| bank.chord(&too_many(), Trigger::New), NotAChord),
         (|bank| bank.release(20), NoSuchVoice),
         (|bank| bank.release((1 << 32) + 2), NoSuchVoice),
         (|bank| bank.reset(64), NoSuchVoice),
@@ -228,6 +260,51 @@ fn refused_calls_change_nothing() {
         assert_eq!(call(&mut bank), Err(refusal), "case {at}");
         assert!(*bank.as_bytes() == before, "the bank after case {at}");
     }
+}
+
+#[test]
+fn a_chord_is_its_triggers_one_by_one() {
+    let mut random = Random::new(0xacc0);
+    for take in 0..300 {
+        let voices = [1, 2, 16, 17, 40, 64][take % 6];
+        let trigger = [Trigger::New, Trigger::Retrigger, Trigger::Legato][take / 6 % 3];
+        let (params, timing) = (random.params(), random.timing());
+        let mut bank = EnvelopeBank::new(voices.into(), params, timing).unwrap();
+        for _ in 0..40 {
+            apply(&mut bank, random.event(voices), &mut Vec::new()).unwrap();
+        }
+        let mut one_by_one = bank.clone();
+        let chord = some_of(&mut random, voices);
+        assert_eq!(bank.chord(&chord, trigger), Ok(()));
+        for &voice in &chord {
+            one_by_one.trigger(voice, trigger).unwrap();
+        }
+        assert!(bank.as_bytes() == one_by_one.as_bytes(), "{chord:?}");
+        assert!(drawn(&mut bank, 40) == drawn(&mut one_by_one, 40));
+    }
+}
+
+#[test]
+fn how_many_voices_a_chord_has() {
+    let all = too_many();
+    for voices in [0, 20] {
+        let mut bank = opened(voices);
+        let before = *bank.as_bytes();
+        // One that points into an array, and one that dangles.
+        for none in [&all[65..], Vec::new().as_slice()] {
+            assert_eq!(bank.chord(none, Trigger::New), Ok(()));
+            assert!(*bank.as_bytes() == before);
+        }
+    }
+    for count in [1, 2, 63, 64] {
+        let mut bank = opened(64);
+        assert_eq!(bank.chord(&all[..count], Trigger::New), Ok(()));
+        for voice in 0..64 {
+            assert_eq!(bank.is_idle(voice), Ok(voice >= count), "{count}");
+        }
+    }
+    let refused = opened(64).chord(&all, Trigger::New);
+    assert_eq!(refused, Err(Refusal::NotAChord));
 }
 
 #[test]
@@ -253,6 +330,12 @@ fn refusals_say_what_they_are() {
     assert_eq!(
         refusal.to_string(),
         "levels that are no whole number of frames"
+    );
+    let refusal = opened(1).chord(&[0, 0], Trigger::New).unwrap_err();
+    assert_eq!(refusal.number(), 12);
+    assert_eq!(
+        refusal.to_string(),
+        "a chord that names a voice twice or has over 64 entries"
     );
     let error: Box<dyn std::error::Error> = opened(1).release(1).unwrap_err().into();
     assert_eq!(error.to_string(), "no such voice");

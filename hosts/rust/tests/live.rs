@@ -7,7 +7,7 @@ mod live;
 use worfelli::{EnvelopeParams, Event, List, Timing, Trigger, play};
 
 const SCRIPT: &str = "\
-# Two keys, one of which goes down again while it is released.
+# Two keys, one of which goes down again while it is released, and a chord.
 0 down 3
   100 down\t15\r
 
@@ -16,6 +16,8 @@ const SCRIPT: &str = "\
 163 up 15
 300 up 3
 300 up 3
+400 down 9 15 0 3
+1000 up 15 9
 7000 end
 # Nothing follows.
 ";
@@ -48,7 +50,15 @@ fn list() -> List {
         Event::Frames(137),
         Event::Release(3),
         Event::Release(3),
-        Event::Frames(6700),
+        Event::Frames(100),
+        down(9),
+        down(15),
+        down(0),
+        down(3),
+        Event::Frames(600),
+        Event::Release(15),
+        Event::Release(9),
+        Event::Frames(6000),
     ])
 }
 
@@ -73,6 +83,9 @@ fn levels_of_a_script() {
     assert_eq!(take("1 end"), (vec![0; 64], Ok(())));
 }
 
+/// What is expected after down and up.
+const KEYS: &str = "1 to 16 keys, each from 0 to 15";
+
 #[test]
 fn wrong_scripts() {
     let cases = [
@@ -89,10 +102,11 @@ fn wrong_scripts() {
         ("2 down 3\n\n1 up 3", 3, "a frame from 2 on"),
         ("2", 1, "down, up or end after the frame"),
         ("2 Down 3", 1, "down, up or end after the frame"),
-        ("2 down", 1, "one key from 0 to 15"),
-        ("2 down 16", 1, "one key from 0 to 15"),
-        ("2 up x", 1, "one key from 0 to 15"),
-        ("2 up 3 4", 1, "one key from 0 to 15"),
+        ("2 down", 1, KEYS),
+        ("2 down 16", 1, KEYS),
+        ("2 up x", 1, KEYS),
+        ("2 up 3 4 -5", 1, KEYS),
+        ("2 up 1 1 1 1 1 1 1 1 1 1 1 1 1 1 1 1 1", 1, KEYS),
         ("2 end 3", 1, "nothing after end"),
         ("2 end\n\n1 wrong", 3, "nothing after FRAME end"),
     ];
@@ -106,4 +120,12 @@ fn wrong_scripts() {
     }
     // The levels before what is wrong have been written.
     assert_eq!(take("0 down 3\n2 down 3\n3 wrong").0.len(), 2 * 64);
+}
+
+#[test]
+fn a_key_twice_in_a_line() {
+    let (_, answer) = take("2 down 4 3 4\n9 end");
+    let refused = "refused 12: a chord that names a voice twice or has over 64 entries";
+    assert_eq!(answer, Err(refused.into()));
+    assert_eq!(take("2 up 4 3 4\n9 end").1, Ok(()));
 }

@@ -230,6 +230,8 @@ fn live() -> Result<Lived, Refusal> {
     lived.frames(&mut bank, 5)?;
     bank.reset(2)?;
     lived.frames(&mut bank, 7)?;
+    bank.chord(&[2, 0], Trigger::New)?;
+    lived.frames(&mut bank, 9)?;
     lived.bytes.extend(bank.as_bytes());
     Ok(lived)
 }
@@ -269,13 +271,15 @@ fn a_bank_refuses_the_same_in_every_mode() {
                 bank.set_all_params(over),
                 bank.set_timing(Timing::new(2_000_000.0)),
                 bank.trigger(1, Trigger::New),
+                bank.chord(&[0, 0], Trigger::New),
+                bank.chord(&[0, 1], Trigger::New),
                 bank.process(&mut out),
                 bank.level(1).map(drop),
                 bank.lead(1).map(drop),
             ]
         });
         let numbers = answers.0.map(|answer| answer.unwrap_err().number());
-        assert_eq!((numbers, answers.1), ([3, 3, 4, 2, 5, 2, 2], mode));
+        assert_eq!((numbers, answers.1), ([3, 3, 4, 2, 12, 2, 5, 2, 2], mode));
         assert_eq!(out.map(f32::to_bits), [7_f32.to_bits(); 17]);
     }
 }
