@@ -15,7 +15,7 @@ use crate::series::Lists;
 use crate::settings::{self, Style};
 
 /// The most calls of a list beside the notes on all voices and the readings.
-const CALLS: u64 = 40;
+const CALLS: u64 = 44;
 
 /// One of so many calls is a chord.
 const CHORDS: u64 = 12;
