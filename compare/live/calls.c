@@ -33,6 +33,11 @@ uint32_t compare_bank_trigger(worfelli_bank *bank, size_t voice, uint32_t kind)
     return worfelli_bank_trigger(bank, voice, kind);
 }
 
+uint32_t compare_bank_chord(worfelli_bank *bank, const size_t *voices, size_t count, uint32_t kind)
+{
+    return worfelli_bank_chord(bank, voices, count, kind);
+}
+
 uint32_t compare_bank_release(worfelli_bank *bank, size_t voice)
 {
     return worfelli_bank_release(bank, voice);

@@ -32,6 +32,9 @@ pub const STAGES: [Stage; 7] = [
     Stage::Release,
 ];
 
+/// The kinds of triggers by their numbers.
+pub const TRIGGERS: [Trigger; 3] = [Trigger::New, Trigger::Retrigger, Trigger::Legato];
+
 /// The number of `stage`.
 #[must_use]
 pub fn stage_number(stage: Stage) -> u32 {

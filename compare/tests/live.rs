@@ -34,6 +34,10 @@ enum Fault {
     JoinKeepsSettings,
     /// A release is left out.
     NoRelease,
+    /// A chord leaves its last voice.
+    ChordLeavesLast,
+    /// A chord of any kind is one of new notes.
+    ChordIsNew,
     /// These readings are one off.
     Settings,
     Stage,
@@ -58,6 +62,19 @@ impl Faulty {
     fn is_left_out(&mut self, call: &Call) -> bool {
         matches!(call, Call::Release(_)) && self.fault == Fault::NoRelease
     }
+
+    /// What is called in a call's place.
+    fn instead(&self, call: &Call) -> Call {
+        match (self.fault, call) {
+            (Fault::ChordLeavesLast, Call::Chord(voices, trigger)) => {
+                Call::Chord(voices[..voices.len() - 1].to_vec(), *trigger)
+            }
+            (Fault::ChordIsNew, Call::Chord(voices, _)) => {
+                Call::Chord(voices.clone(), Trigger::New)
+            }
+            _ => call.clone(),
+        }
+    }
 }
 
 impl Host for Faulty {
@@ -75,7 +92,7 @@ impl Host for Faulty {
         }
         let kept = self.host.reading(0).reply.settings;
         let first = out.first().copied();
-        let answer = self.host.call(call, out);
+        let answer = self.host.call(&self.instead(call), out);
         let (is_refused, last) = (answer != 0, out.last_mut());
         match self.fault {
             Fault::AcceptsAll => return 0,
@@ -147,6 +164,7 @@ fn list() -> List {
         Call::Release(1),
         Call::Read(1),
         Call::Process(16),
+        Call::Chord(vec![0, 2], Trigger::Legato),
     ] {
         draft.ask(call, 9_999);
     }
@@ -193,6 +211,8 @@ fn each_fault_is_seen_where_it_is() {
         (Fault::ReadingMoves, "bank kept"),
         (Fault::JoinKeepsSettings, "settings"),
         (Fault::NoRelease, "stage"),
+        (Fault::ChordLeavesLast, "stage"),
+        (Fault::ChordIsNew, "level"),
         (Fault::Settings, "settings"),
         (Fault::Stage, "stage"),
         (Fault::Idle, "is_idle"),

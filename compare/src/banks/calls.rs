@@ -2,11 +2,13 @@
 //! of both, numbers little-endian.
 //!
 //! A call has the bytes of an envelope's, with voices' numbers at 72..80 and
-//! 80..88 and an output's length in levels at 1..5. The answer is the refusal,
-//! one word; after a process all of the output, whether it was written or not.
-//! The answer to readings is 31 words: an envelope's reply, its refusal being
-//! that of the settings' reading; the refusals of stage, idle, level, tail and
-//! lead; `voices` and `stride`, two words each with the lower first.
+//! 80..88 and an output's length in levels at 1..5. A chord has the number of
+//! its entries at 72..80, and these follow it, eight bytes each. The answer is
+//! the refusal, one word; after a process all of the output, whether it was
+//! written or not. The answer to readings is 31 words: an envelope's reply, its
+//! refusal being that of the settings' reading; the refusals of stage, idle,
+//! level, tail and lead; `voices` and `stride`, two words each with the lower
+//! first.
 
 use crate::calls::{CALL, REPLY, Reply, Settings, kind, settings_bytes, timing_bytes};
 use crate::rust::envelope::{EnvelopeParams, Timing, Trigger};
@@ -14,12 +16,15 @@ use crate::rust::envelope::{EnvelopeParams, Timing, Trigger};
 /// The longest output that may be asked for, in levels.
 pub const LONGEST: u32 = 262_144;
 
+/// The most entries of a chord that may be asked for.
+pub const MOST_ENTRIES: usize = 128;
+
 /// The bytes of the answer to readings, and the words after the reply.
 pub const READING: usize = REPLY + 4 * REST;
 const REST: usize = 9;
 
 /// One call on the bank. Voices' numbers come first.
-#[derive(Clone, Copy, Debug)]
+#[derive(Clone, Debug)]
 pub enum Call {
     Open(u64, EnvelopeParams, Timing),
     Settings(u64, EnvelopeParams),
@@ -33,10 +38,17 @@ pub enum Call {
     Process(u32),
     /// All readings of a voice.
     Read(u64),
+    /// One kind of trigger for each of these voices, at most [`MOST_ENTRIES`].
+    Chord(Vec<u64>, Trigger),
 }
 
-/// The names of the calls, in the order of their tags, which begin with 9.
-pub const NAMES: [&str; 10] = [
+/// The tags of an opening and of a chord. Those of the other calls follow the
+/// opening's.
+const OPEN: u8 = 9;
+const CHORD: u8 = 22;
+
+/// The names of the calls, in the order of their tags.
+pub const NAMES: [&str; 11] = [
     "open",
     "settings",
     "settings for all",
@@ -47,6 +59,7 @@ pub const NAMES: [&str; 10] = [
     "join",
     "process",
     "readings",
+    "chord",
 ];
 
 impl Call {
@@ -64,6 +77,7 @@ impl Call {
             Self::Join(..) => 7,
             Self::Process(_) => 8,
             Self::Read(_) => 9,
+            Self::Chord(..) => 10,
         }
     }
 
@@ -80,6 +94,7 @@ impl Call {
             | Self::Read(voice) => format!("{name} {voice}"),
             Self::Join(voice, from) => format!("{name} {voice} from {from}"),
             Self::Process(levels) => format!("{name} {levels}"),
+            Self::Chord(voices, _) => format!("{name} {voices:?}"),
             Self::SettingsForAll(_) | Self::Timing(_) => name.into(),
         }
     }
@@ -93,10 +108,23 @@ impl Call {
         }
     }
 
+    /// Its bytes, with the entries of a chord.
     #[must_use]
-    pub fn bytes(&self) -> [u8; CALL] {
+    pub fn bytes(&self) -> Vec<u8> {
+        let mut bytes = self.head().to_vec();
+        if let Self::Chord(voices, _) = self {
+            bytes.extend(voices.iter().flat_map(|voice| voice.to_le_bytes()));
+        }
+        bytes
+    }
+
+    /// Its bytes but the entries of a chord.
+    fn head(&self) -> [u8; CALL] {
         let mut bytes = [0; CALL];
-        bytes[0] = 9 + self.number() as u8;
+        bytes[0] = match self {
+            Self::Chord(..) => CHORD,
+            _ => OPEN + self.number() as u8,
+        };
         let (voice, from) = self.voices();
         bytes[72..80].copy_from_slice(&voice.to_le_bytes());
         bytes[80..].copy_from_slice(&from.to_le_bytes());
@@ -109,14 +137,15 @@ impl Call {
                 bytes[1..48].copy_from_slice(&settings_bytes(settings));
             }
             Self::Timing(timing) => bytes[48..72].copy_from_slice(&timing_bytes(timing)),
-            Self::Trigger(_, trigger) => bytes[1] = kind(*trigger),
+            Self::Trigger(_, trigger) | Self::Chord(_, trigger) => bytes[1] = kind(*trigger),
             Self::Process(levels) => bytes[1..5].copy_from_slice(&levels.to_le_bytes()),
             Self::Release(_) | Self::Reset(_) | Self::Join(..) | Self::Read(_) => {}
         }
         bytes
     }
 
-    /// The two voices' numbers, 0 for one that it doesn't name.
+    /// The two voices' numbers, 0 for one that it doesn't name; of a chord how
+    /// many entries it has.
     fn voices(&self) -> (u64, u64) {
         match *self {
             Self::Open(voice, ..)
@@ -126,6 +155,7 @@ impl Call {
             | Self::Reset(voice)
             | Self::Read(voice) => (voice, 0),
             Self::Join(voice, from) => (voice, from),
+            Self::Chord(ref voices, _) => (voices.len() as u64, 0),
             Self::SettingsForAll(_) | Self::Timing(_) | Self::Process(_) => (0, 0),
         }
     }
@@ -213,6 +243,21 @@ mod tests {
         assert_eq!(Call::Trigger(3, Trigger::Legato).bytes()[..2], [13, 2]);
         assert_eq!(Call::Process(LONGEST).bytes()[..5], [17, 0, 0, 4, 0]);
         assert_eq!(Call::Read(7).bytes()[0], 18);
+    }
+
+    #[test]
+    fn the_entries_of_a_chord_follow_it() {
+        let bytes = Call::Chord(vec![258, u64::MAX], Trigger::Retrigger).bytes();
+        assert_eq!(bytes[..3], [22, 1, 0]);
+        assert_eq!(
+            bytes[72..CALL],
+            [2, 0, 0, 0, 0, 0, 0, 0, 0, 0, 0, 0, 0, 0, 0, 0]
+        );
+        assert_eq!(bytes[CALL..CALL + 8], [2, 1, 0, 0, 0, 0, 0, 0]);
+        assert_eq!(bytes[CALL + 8..], [255; 8]);
+        let none = Call::Chord(Vec::new(), Trigger::Legato);
+        assert_eq!(none.bytes().len(), CALL);
+        assert_eq!(none.shown(), "chord []");
     }
 
     #[test]

@@ -1,17 +1,19 @@
 //! What the lists of a bank reached: each call, accepted and by each number
 //! that can refuse it; accepted calls by the stage of the voice that they met;
-//! and the places where something is easily got wrong. What was not reached is
-//! not compared, so it is a failure.
+//! and the places where something is easily got wrong, those of [`chords`] too.
+//! What was not reached is not compared, so it is a failure.
+
+mod chords;
 
 use crate::banks::calls::{Call, LONGEST, NAMES};
-use crate::banks::refusals::{FRAMES, VOICE, VOICES, stride};
+use crate::banks::refusals::{CHORD, FRAMES, VOICE, VOICES, stride};
 use crate::calls::{STAGES, stage_number};
 use crate::coverage::counted;
 use crate::reference::{ACCEPTED, RATE, TIME};
 use crate::rust::envelope::{EnvelopeBank, StealRestart, Trigger};
 
 /// The calls that can be refused, with their numbers.
-const REFUSED: [(&str, &[u32]); 10] = [
+const REFUSED: [(&str, &[u32]); NAMES.len()] = [
     ("open", &[VOICES, TIME, RATE]),
     ("settings", &[VOICE, TIME]),
     ("settings for all", &[TIME]),
@@ -22,13 +24,14 @@ const REFUSED: [(&str, &[u32]); 10] = [
     ("join", &[VOICE]),
     ("process", &[FRAMES]),
     ("readings", &[VOICE]),
+    ("chord", &[CHORD, VOICE]),
 ];
 
 /// One more than the largest number that refuses a call.
-const NUMBERS: usize = 6;
+const NUMBERS: usize = 13;
 
 /// The kinds of accepted calls that voices in every stage have to meet.
-const KINDS: [&str; 14] = [
+const KINDS: [&str; 19] = [
     "settings",
     "settings for all",
     "timing",
@@ -43,6 +46,11 @@ const KINDS: [&str; 14] = [
     "joined by another",
     "process",
     "readings",
+    "new by a chord",
+    "retrigger from the level by a chord",
+    "retrigger from the start by a chord",
+    "legato by a chord",
+    "legato inverted by a chord",
 ];
 
 /// Places, in the order of printing.
@@ -84,6 +92,7 @@ pub struct Coverage {
     calls: [[u64; NUMBERS]; NAMES.len()],
     met: [[u64; KINDS.len()]; STAGES.len()],
     marks: [u64; MARKS.len()],
+    chords: [u64; chords::CASES],
 }
 
 impl Coverage {
@@ -106,6 +115,7 @@ impl Coverage {
             | Call::Release(voice)
             | Call::Reset(voice)
             | Call::Read(voice) => self.named(voices, voice),
+            Call::Chord(ref named, _) => self.chord(voices, named),
             Call::SettingsForAll(_) | Call::Timing(_) => {}
         }
         if refusal == ACCEPTED {
@@ -141,6 +151,16 @@ impl Coverage {
         self.mark_if(voice == u64::MAX, "voice 2^64 - 1");
     }
 
+    fn chord(&mut self, voices: u64, named: &[u64]) {
+        for voice in named {
+            self.named(voices, *voice);
+        }
+        let cases = chords::cases(voices, named).into_iter();
+        for (count, (_, holds)) in self.chords.iter_mut().zip(cases) {
+            *count += u64::from(holds);
+        }
+    }
+
     fn processed(&mut self, levels: u32, stride: u32) {
         self.mark_if(levels == 0, "an output of 0");
         self.mark_if(
@@ -167,6 +187,7 @@ impl Coverage {
                 self.met(bank, from, "joined by another");
             }
             Call::Trigger(voice, trigger) => self.met(bank, voice, kind(bank, voice, trigger)),
+            Call::Chord(ref voices, trigger) => self.met_by_chord(bank, voices, trigger),
             Call::Settings(voice, _)
             | Call::Release(voice)
             | Call::Reset(voice)
@@ -178,6 +199,13 @@ impl Coverage {
         if let Some(kind) = KINDS.iter().position(|kind| *kind == name) {
             let stage = stage_number(bank.stage(voice as usize));
             self.met[stage as usize][kind] += 1;
+        }
+    }
+
+    fn met_by_chord(&mut self, bank: &EnvelopeBank, voices: &[u64], trigger: Trigger) {
+        for voice in voices {
+            let kind = format!("{} by a chord", kind(bank, *voice, trigger));
+            self.met(bank, *voice, &kind);
         }
     }
 
@@ -212,9 +240,11 @@ impl Coverage {
     pub fn merge(&mut self, other: &Self) {
         let to = self.calls.as_flattened_mut().iter_mut();
         let to = to.chain(self.met.as_flattened_mut());
+        let to = to.chain(&mut self.marks).chain(&mut self.chords);
         let from = other.calls.as_flattened().iter();
         let from = from.chain(other.met.as_flattened());
-        for (to, from) in to.chain(&mut self.marks).zip(from.chain(&other.marks)) {
+        let from = from.chain(&other.marks).chain(&other.chords);
+        for (to, from) in to.zip(from) {
             *to += from;
         }
     }
@@ -230,6 +260,8 @@ impl Coverage {
             println!("in {stage:?}: {}", counted(&KINDS, met));
         }
         println!("{}", counted(&MARKS, &self.marks));
+        let (names, counts): (Vec<_>, Vec<_>) = self.chords().into_iter().unzip();
+        println!("{}", counted(&names, &counts));
         let missing = self.missing();
         for thing in &missing {
             println!("not reached: {thing}");
@@ -248,6 +280,12 @@ impl Coverage {
         refusals
     }
 
+    /// Each case of a chord, and how often it came.
+    fn chords(&self) -> Vec<(String, u64)> {
+        let names = chords::cases(0, &[]).map(|(name, _)| format!("a chord with {name}"));
+        names.into_iter().zip(self.chords).collect()
+    }
+
     fn missing(&self) -> Vec<String> {
         let accepted = NAMES.iter().zip(&self.calls);
         let accepted = accepted.map(|(name, counts)| ((*name).to_string(), counts[0]));
@@ -262,6 +300,7 @@ impl Coverage {
             .chain(self.refusals())
             .chain(met)
             .chain(marks)
+            .chain(self.chords())
             .filter(|(_, count)| *count == 0)
             .map(|(name, _)| name)
             .collect()
@@ -287,6 +326,11 @@ mod tests {
     use super::*;
     use crate::rust::envelope::{EnvelopeParams, Timing};
 
+    /// The counts of a call that was answered once, with `number`.
+    fn once(number: u32) -> [u64; NUMBERS] {
+        std::array::from_fn(|at| u64::from(at == number as usize))
+    }
+
     #[test]
     fn counts_by_the_stage_before_the_call() {
         let mut bank = EnvelopeBank::new(2, EnvelopeParams::AMP, Timing::new(1e3));
@@ -299,8 +343,8 @@ mod tests {
         assert_eq!(coverage.met[0][10], 1, "join in Idle");
         assert_eq!(coverage.met[2][11], 1, "joined in Attack");
         assert_eq!(coverage.met[2][12], 1, "process in Attack");
-        assert_eq!(coverage.calls[7], [1, 0, 0, 0, 0, 0]);
-        assert_eq!(coverage.calls[5], [0, 0, 1, 0, 0, 0]);
+        assert_eq!(coverage.calls[7], once(ACCEPTED));
+        assert_eq!(coverage.calls[5], once(VOICE));
         // join, process and a refused release; four kinds in stages; the last
         // voice, a voice of 2^32 or more, 2^64 - 1, and an end within a block.
         assert_eq!(everything - coverage.missing().len(), 3 + 4 + 4);
@@ -308,5 +352,26 @@ mod tests {
         sum.merge(&coverage);
         assert_eq!(sum.calls[7][0], 2);
         assert_eq!(sum.marks[25], 2);
+    }
+
+    #[test]
+    fn counts_each_voice_of_an_accepted_chord() {
+        let mut bank = EnvelopeBank::new(3, EnvelopeParams::AMP, Timing::new(1e3));
+        bank.trigger(1, Trigger::New);
+        let mut coverage = Coverage::default();
+        let everything = coverage.missing().len();
+        let chord = |voices: &[u64]| Call::Chord(voices.to_vec(), Trigger::Legato);
+        coverage.add(&bank, &chord(&[2, 0, 1]), ACCEPTED);
+        coverage.add(&bank, &chord(&[1, 1]), CHORD);
+        coverage.add(&bank, &chord(&[0, 1, 3]), VOICE);
+        let [idle, attack] = [0, 2].map(|stage| coverage.met[stage][17]);
+        assert_eq!((idle, attack), (2, 1), "legato by a chord");
+        assert_eq!(coverage.calls[10].iter().sum::<u64>(), 3);
+        // Accepted, by 12 and by 2; two stages; the last voice and one past it;
+        // a voice twice, and the last missing.
+        assert_eq!(everything - coverage.missing().len(), 3 + 2 + 2 + 2);
+        let mut sum = coverage.clone();
+        sum.merge(&coverage);
+        assert_eq!(sum.chords.iter().sum::<u64>(), 4);
     }
 }

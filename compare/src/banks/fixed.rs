@@ -3,6 +3,7 @@
 //! can go stale.
 
 mod changes;
+mod chords;
 mod joins;
 mod outputs;
 mod refused;
@@ -21,7 +22,7 @@ type Build = fn(&mut Case) -> bool;
 
 /// Each case: its name, and what makes it and answers whether it shows what
 /// the name says.
-const CASES: [(&str, Build); 30] = [
+const CASES: [(&str, Build); 40] = [
     ("document 01's sample list", voices::the_sample),
     ("the sample list on voice 16 of 17", voices::the_last_voice),
     ("0 voices", voices::none),
@@ -42,6 +43,19 @@ const CASES: [(&str, Build); 30] = [
     ("settings for one of three", changes::for_one),
     ("timing in mid-segment", changes::timing),
     ("every kind of trigger", changes::triggers),
+    ("chords between blocks", chords::short),
+    ("chords of no voice", chords::of_none),
+    ("chords of one voice", chords::of_one),
+    ("chords of some voices", chords::of_some),
+    ("chords of all 64 voices", chords::of_all),
+    ("chords of over 64 entries", chords::too_long),
+    ("chords with a voice twice", chords::twice),
+    ("chords with a missing voice twice", chords::missing_twice),
+    ("chords with a voice missing", chords::missing),
+    (
+        "chords with one twice and one missing",
+        chords::twice_and_missing,
+    ),
     ("lengths of the output", outputs::lengths),
     ("the longest output", outputs::longest),
     ("a neighbour's end within a block", segments::neighbour),
@@ -92,6 +106,11 @@ impl Case {
     /// A new note.
     fn note(&mut self, voice: u64) {
         self.ask(Call::Trigger(voice, Trigger::New));
+    }
+
+    /// A trigger of this kind for each of the voices.
+    fn chord(&mut self, voices: &[u64], trigger: Trigger) {
+        self.ask(Call::Chord(voices.to_vec(), trigger));
     }
 
     fn set(&mut self, voice: u64, settings: EnvelopeParams) {

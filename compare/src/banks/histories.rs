@@ -100,6 +100,11 @@ impl Histories {
             Call::SettingsForAll(settings) => self.enter_all(Entry::Settings(settings)),
             Call::Timing(timing) => self.enter_all(Entry::Timing(timing)),
             Call::Trigger(voice, trigger) => self.enter_one(voice, Entry::Trigger(trigger)),
+            Call::Chord(ref voices, trigger) => {
+                for voice in voices {
+                    self.enter_one(*voice, Entry::Trigger(trigger));
+                }
+            }
             Call::Release(voice) => self.enter_one(voice, Entry::Release),
             Call::Reset(voice) => self.enter_one(voice, Entry::Reset),
             Call::Join(voice, from) => {
@@ -166,6 +171,24 @@ mod tests {
             Entry::Frames { .. } => '.',
         };
         histories.voices[voice].entries.iter().map(letter).collect()
+    }
+
+    #[test]
+    fn a_chord_enters_one_trigger_for_each_voice() {
+        let mut histories = Histories::default();
+        let mut levels = Vec::new();
+        for call in [
+            Call::Open(4, SETTINGS, Timing::new(1000.0)),
+            Call::Chord(Vec::new(), Trigger::New),
+            Call::Chord(vec![3, 0], Trigger::New),
+            Call::Process(32),
+            Call::Chord(vec![0, 1], Trigger::Legato),
+        ] {
+            histories.enter(&call, &mut levels);
+        }
+        let entered = [0, 1, 2, 3].map(|voice| kinds(&histories, voice));
+        assert_eq!(entered, ["fn.n", "f.n", "f.", "fn."]);
+        assert_eq!(levels[16..20], [0.25, 0.0, 0.0, 0.25]);
     }
 
     #[test]

@@ -14,7 +14,7 @@ use crate::replay::Asked;
 use crate::rust::envelope::EnvelopeBank;
 
 /// A call and what the Rust says to it.
-#[derive(Clone, Copy, Debug)]
+#[derive(Clone, Debug)]
 pub struct Step {
     pub call: Call,
     pub refusal: u32,
@@ -74,7 +74,7 @@ impl List {
                 Call::Open(opened, ..) => voices = opened,
                 _ => {}
             }
-            steps.push(*step);
+            steps.push(step.clone());
         }
         Self {
             name: format!("{}, cut", self.name),

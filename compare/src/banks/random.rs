@@ -3,16 +3,22 @@
 //! segments, and changes meet stages in their middle. Some lists are damaged:
 //! many of their calls are refused.
 
+mod chords;
+
 use crate::banks::calls::{Call, LONGEST};
 use crate::banks::lists::{Draft, List};
+use crate::calls::TRIGGERS;
 use crate::random::Random;
 use crate::random_lists::{changed_settings, changed_timing, exceed, fresh};
 use crate::rust::envelope::{Envelope, EnvelopeBank, EnvelopeParams, Timing, Trigger};
 use crate::series::Lists;
 use crate::settings::{self, Style};
 
-/// The most calls of a list beside its chord and the readings.
-const CALLS: u64 = 40;
+/// The most calls of a list beside the notes on all voices and the readings.
+const CALLS: u64 = 44;
+
+/// One of so many calls is a chord.
+const CHORDS: u64 = 12;
 
 /// A lead up to this is held against a copy that is run on.
 const SHORT_LEAD: u64 = 500;
@@ -22,8 +28,6 @@ const LONGEST_BLOCK: u64 = 4096;
 
 /// Numbers of voices at which something changes.
 const COUNTS: [u64; 11] = [0, 1, 15, 16, 17, 32, 33, 48, 49, 63, 64];
-
-const TRIGGERS: [Trigger; 3] = [Trigger::New, Trigger::Retrigger, Trigger::Legato];
 
 /// The lists that follow from `seed`.
 #[must_use]
@@ -63,10 +67,13 @@ fn list(random: &mut Random, name: String) -> List {
     let opening = opening(random, plan);
     draft.ask(opening, SHORT_LEAD);
     if random.below(3) == 0 {
-        chord(random, plan, &mut draft);
+        notes(random, plan, &mut draft);
     }
     for _ in 0..random.below(CALLS) {
-        let call = call(random, plan, draft.bank(), draft.levels());
+        let call = match random.below(CHORDS) {
+            0 => chords::chord(random, plan, draft.bank()),
+            _ => call(random, plan, draft.bank(), draft.levels()),
+        };
         draft.ask(call, SHORT_LEAD);
         if random.coin() {
             let voice = voice(random, plan, draft.bank());
@@ -93,7 +100,7 @@ pub fn opening(random: &mut Random, plan: Plan) -> Call {
 }
 
 /// A note on every voice, many with settings of their own.
-fn chord(random: &mut Random, plan: Plan, draft: &mut Draft) {
+fn notes(random: &mut Random, plan: Plan, draft: &mut Draft) {
     let own = random.coin();
     for voice in 0..draft.bank().voices() as u64 {
         if own && random.coin() {
@@ -119,6 +126,7 @@ pub fn voice(random: &mut Random, plan: Plan, bank: &EnvelopeBank) -> u64 {
     }
 }
 
+/// A voice's number, mostly none that there is.
 fn no_voice(random: &mut Random, voices: u64) -> u64 {
     match random.below(10) {
         0..3 => voices,
@@ -133,7 +141,7 @@ fn no_voice(random: &mut Random, voices: u64) -> u64 {
     }
 }
 
-/// The next call on the bank, which has handed out so many levels.
+/// The next call on the bank but a chord. It has handed out so many levels.
 pub fn call(random: &mut Random, plan: Plan, bank: &EnvelopeBank, levels: usize) -> Call {
     let style = plan.style;
     let room = plan.levels.saturating_sub(levels) / bank.stride();
@@ -241,6 +249,7 @@ fn frames(random: &mut Random, style: Style, envelope: Option<&Envelope>, room: 
 #[cfg(test)]
 mod tests {
     use super::*;
+    use crate::banks::calls::MOST_ENTRIES;
     use crate::replay::Asked;
     use crate::series::tests::follow_their_seed;
 
@@ -255,6 +264,9 @@ mod tests {
             assert!(matches!(list.steps[0].call, Call::Open(..)));
             for step in &list.steps {
                 assert!(step.call.levels() <= LONGEST as usize);
+                if let Call::Chord(voices, _) = &step.call {
+                    assert!(voices.len() <= MOST_ENTRIES);
+                }
             }
             let levels: usize = list.steps.iter().map(|step| step.call.levels()).sum();
             assert_eq!(levels, list.levels.bank.len());

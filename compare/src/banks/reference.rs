@@ -37,6 +37,11 @@ pub fn apply(bank: &mut EnvelopeBank, call: &Call, refusal: u32, levels: &mut Ve
         Call::Release(voice) => bank.release(voice as usize),
         Call::Reset(voice) => bank.reset(voice as usize),
         Call::Join(voice, from) => bank.join(voice as usize, from as usize),
+        Call::Chord(ref voices, trigger) => {
+            for voice in voices {
+                bank.trigger(*voice as usize, trigger);
+            }
+        }
         Call::Process(_) => {
             let drawn = bank.process_at(Level::Portable, &mut levels[first..]);
             assert!(drawn, "the portable level is not there");

@@ -1,10 +1,13 @@
-//! Which calls on a bank are refused, by document 01's numbers and read from
-//! the calls alone: how many voices there are follows from the opening.
+//! Which calls on a bank are refused, by document 01's numbers, of chords by
+//! 02's, and read from the calls alone: how many voices there are follows from
+//! the opening.
+
+use std::collections::HashSet;
 
 use crate::banks::calls::Call;
 use crate::reference::{ACCEPTED, fresh_refusal, rate_refusal, time_refusal};
 
-/// The most voices of a bank.
+/// The most voices of a bank, and the most entries of a chord.
 pub const MOST: u64 = 64;
 
 /// The refusal of more voices.
@@ -13,6 +16,8 @@ pub const VOICES: u32 = 1;
 pub const VOICE: u32 = 2;
 /// The refusal of an output that is not whole frames.
 pub const FRAMES: u32 = 5;
+/// The refusal of a chord that names a voice twice or has more entries.
+pub const CHORD: u32 = 12;
 
 /// The levels of a frame of so many voices: a multiple of 16, and at least 16.
 #[must_use]
@@ -32,9 +37,17 @@ pub fn refusal(voices: u64, call: &Call) -> u32 {
         Call::Timing(timing) => rate_refusal(timing),
         Call::Trigger(of, _) | Call::Release(of) | Call::Reset(of) | Call::Read(of) => voice(*of),
         Call::Join(changed, from) => first(voice(*changed), voice(*from)),
+        Call::Chord(named, _) if named.len() as u64 > MOST || names_twice(named) => CHORD,
+        Call::Chord(named, _) => named.iter().map(|of| voice(*of)).fold(ACCEPTED, first),
         Call::Process(levels) if u64::from(*levels) % stride(voices) != 0 => FRAMES,
         Call::Process(_) => ACCEPTED,
     }
+}
+
+/// Whether a number stands in the list twice, be there such a voice or not.
+fn names_twice(named: &[u64]) -> bool {
+    let distinct: HashSet<&u64> = named.iter().collect();
+    distinct.len() < named.len()
 }
 
 /// The first of two numbers that refuses.
@@ -76,6 +89,30 @@ mod tests {
         ];
         for (call, expected) in answers {
             assert_eq!(refusal(17, &call), expected, "{}", call.shown());
+        }
+    }
+
+    #[test]
+    fn a_chord_is_tested_by_its_numbers_first() {
+        let all: Vec<u64> = (0..64).collect();
+        let answers: [(u64, &[u64], u32); 13] = [
+            (17, &[], ACCEPTED),
+            (0, &[], ACCEPTED),
+            (17, &[16, 0, 7], ACCEPTED),
+            (64, &all, ACCEPTED),
+            (63, &all, VOICE),
+            (17, &[17, 0], VOICE),
+            (17, &[0, 17, 1], VOICE),
+            (17, &[0, u64::MAX], VOICE),
+            (17, &[5, 69, 5 + (1 << 32)], VOICE),
+            (17, &[3, 0, 3], CHORD),
+            (17, &[100, 100], CHORD),
+            (17, &[17, 3, 3], CHORD),
+            (64, &[all.as_slice(), &[64]].concat(), CHORD),
+        ];
+        for (voices, named, expected) in answers {
+            let call = Call::Chord(named.to_vec(), Trigger::New);
+            assert_eq!(refusal(voices, &call), expected, "{}", call.shown());
         }
     }
 

@@ -56,8 +56,8 @@ impl<H: Host> Checked<H> {
     /// One call.
     pub fn step(&mut self, place: Place, expected: Expected) {
         let step = expected.step;
-        if let (Call::Read(voice), Some(readings)) = (step.call, &step.readings) {
-            self.kept_by(place, |checked| checked.read(place, voice, readings));
+        if let (Call::Read(voice), Some(readings)) = (&step.call, &step.readings) {
+            self.kept_by(place, |checked| checked.read(place, *voice, readings));
             return;
         }
         let is_opening = matches!(step.call, Call::Open(..));

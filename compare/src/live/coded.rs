@@ -10,7 +10,7 @@ use crate::rust::envelope::Timing;
 pub const UNNAMED: u32 = 10;
 
 /// The names of the calls that carry codes, in their order.
-pub const NAMES: [&str; 4] = ["open", "settings", "settings for all", "trigger"];
+pub const NAMES: [&str; 5] = ["open", "settings", "settings for all", "trigger", "chord"];
 
 /// The names of the codes of settings, in their order.
 pub const CODES: [&str; 3] = ["unit", "legato inverted", "restart"];
@@ -27,12 +27,13 @@ const NOTHING: [u32; 3] = [3, 255, u32::MAX];
 const LOWER_BITS: [u32; 7] = [256, 257, 65_536, 65_537, 65_538, 1 << 31, (1 << 31) + 1];
 
 /// A call whose codes are numbers.
-#[derive(Clone, Copy, Debug)]
+#[derive(Clone, Debug)]
 pub enum Coded {
     Open(u64, Settings, Timing),
     Settings(u64, Settings),
     SettingsForAll(Settings),
     Trigger(u64, u32),
+    Chord(Vec<u64>, u32),
 }
 
 impl Coded {
@@ -44,6 +45,7 @@ impl Coded {
             Call::Settings(voice, settings) => Self::Settings(*voice, settings.into()),
             Call::SettingsForAll(settings) => Self::SettingsForAll(settings.into()),
             Call::Trigger(voice, trigger) => Self::Trigger(*voice, kind(*trigger).into()),
+            Call::Chord(voices, trigger) => Self::Chord(voices.clone(), kind(*trigger).into()),
             _ => return None,
         })
     }
@@ -56,6 +58,7 @@ impl Coded {
             Self::Settings(..) => 1,
             Self::SettingsForAll(_) => 2,
             Self::Trigger(..) => 3,
+            Self::Chord(..) => 4,
         }
     }
 
@@ -68,7 +71,7 @@ impl Coded {
             | Self::SettingsForAll(settings) => {
                 vec![settings.unit, settings.legato_inverted, settings.restart]
             }
-            Self::Trigger(_, kind) => vec![*kind],
+            Self::Trigger(_, kind) | Self::Chord(_, kind) => vec![*kind],
         }
     }
 
@@ -76,7 +79,7 @@ impl Coded {
     #[must_use]
     pub fn is_unnamed(&self, code: u32) -> bool {
         match self {
-            Self::Trigger(..) => code >= NO_KIND,
+            Self::Trigger(..) | Self::Chord(..) => code >= NO_KIND,
             _ => code >= NO_CODE,
         }
     }
@@ -88,7 +91,7 @@ impl Coded {
             Self::Open(_, settings, _)
             | Self::Settings(_, settings)
             | Self::SettingsForAll(settings) => unname(random, settings),
-            Self::Trigger(_, kind) => *kind = unnamed(random, NO_KIND),
+            Self::Trigger(_, kind) | Self::Chord(_, kind) => *kind = unnamed(random, NO_KIND),
         }
         self
     }
@@ -141,6 +144,7 @@ mod tests {
             Call::Settings(1, EnvelopeParams::AMP),
             Call::SettingsForAll(EnvelopeParams::AMP),
             Call::Trigger(2, Trigger::Legato),
+            Call::Chord(vec![2, 0], Trigger::Retrigger),
         ];
         let mut random = Random::new(1);
         for (number, call) in calls.iter().enumerate() {
@@ -148,7 +152,7 @@ mod tests {
             assert_eq!(named.number(), number);
             assert!(!named.codes().iter().any(|code| named.is_unnamed(*code)));
             for _ in 0..200 {
-                let unnamed = named.with_unnamed(&mut random);
+                let unnamed = named.clone().with_unnamed(&mut random);
                 let codes = unnamed.codes();
                 assert!(codes.iter().any(|code| unnamed.is_unnamed(*code)));
             }

@@ -10,10 +10,10 @@ const NUMBERS: [(&str, u32); 4] = [("2", 2), ("3", 3), ("255", 255), ("2^32 - 1"
 const OTHERS: &str = "another number";
 
 /// What each call would have been answered with.
-const ELSE: [&[u32]; 4] = [&[0, 1, 3, 4], &[0, 2, 3], &[0, 3], &[0, 2]];
+const ELSE: [&[u32]; NAMES.len()] = [&[0, 1, 3, 4], &[0, 2, 3], &[0, 3], &[0, 2], &[0, 2, 12]];
 
 /// One more than the largest of those.
-const ANSWERS: usize = 6;
+const ANSWERS: usize = 13;
 
 /// Counts of what was reached.
 #[derive(Default)]
@@ -67,11 +67,11 @@ impl Coverage {
 
     /// The numbers of a call's codes.
     fn numbers(&self, call: usize) -> Vec<(String, u64)> {
-        let is_trigger = NAMES[call] == "trigger";
-        let codes: &[&str] = if is_trigger { &["kind"] } else { &CODES };
+        let has_kind = matches!(NAMES[call], "trigger" | "chord");
+        let codes: &[&str] = if has_kind { &["kind"] } else { &CODES };
         let names = NUMBERS.iter().map(|(name, _)| *name).chain([OTHERS]);
         // 2 is a kind of trigger.
-        let first = usize::from(is_trigger);
+        let first = usize::from(has_kind);
         let numbers: Vec<(usize, &str)> = names.enumerate().skip(first).collect();
         let mut all = Vec::new();
         for (place, code) in codes.iter().enumerate() {
@@ -94,8 +94,9 @@ mod tests {
     fn counts_each_code_and_the_answer_without() {
         let mut coverage = Coverage::default();
         let everything = coverage.all().len();
-        // Three calls with three codes of five, four kinds, eleven answers.
-        assert_eq!(everything, 1 + 3 * 3 * 5 + 4 + 11);
+        // Three calls with three codes of five, two with four kinds, fourteen
+        // answers.
+        assert_eq!(everything, 1 + 3 * 3 * 5 + 2 * 4 + 14);
         let settings = Settings {
             unit: 2,
             restart: 256,
@@ -103,6 +104,7 @@ mod tests {
         };
         coverage.add(&Coded::Settings(7, settings), 2);
         coverage.add(&Coded::Trigger(7, u32::MAX), 0);
+        coverage.add(&Coded::Chord(vec![7, 7], 3), 12);
         let reached = coverage.all().into_iter().filter(|(_, count)| *count > 0);
         let reached: Vec<String> = reached.map(|(name, _)| name).collect();
         let expected = [
@@ -112,6 +114,8 @@ mod tests {
             "restart another number in settings",
             "trigger by 10, else 0",
             "kind 2^32 - 1 in trigger",
+            "chord by 10, else 12",
+            "kind 3 in chord",
         ];
         assert_eq!(reached, expected);
     }

@@ -58,6 +58,12 @@ unsafe extern "C" {
     safe fn compare_bank_set_all_params(bank: &mut LiveBank, params: &Settings) -> u32;
     safe fn compare_bank_set_timing(bank: &mut LiveBank, timing: &Clock) -> u32;
     safe fn compare_bank_trigger(bank: &mut LiveBank, voice: usize, kind: u32) -> u32;
+    fn compare_bank_chord(
+        bank: &mut LiveBank,
+        voices: *const usize,
+        count: usize,
+        kind: u32,
+    ) -> u32;
     safe fn compare_bank_release(bank: &mut LiveBank, voice: usize) -> u32;
     safe fn compare_bank_reset(bank: &mut LiveBank, voice: usize) -> u32;
     safe fn compare_bank_join(bank: &mut LiveBank, voice: usize, from: usize) -> u32;
@@ -135,6 +141,11 @@ impl LiveBank {
 
     pub fn trigger(&mut self, voice: usize, kind: u32) -> u32 {
         compare_bank_trigger(self, voice, kind)
+    }
+
+    pub fn chord(&mut self, voices: &[usize], kind: u32) -> u32 {
+        // SAFETY: as for the others; pointer and count are those of a slice.
+        unsafe { compare_bank_chord(self, voices.as_ptr(), voices.len(), kind) }
     }
 
     pub fn release(&mut self, voice: usize) -> u32 {

@@ -1,13 +1,14 @@
 //! A bank that is called through the C functions. It lies at an unmapped page,
-//! so that no call can read or write past its ends, and is copied elsewhere now
-//! and then: a copy has to go on as the bank would have.
+//! as the list of a chord does, so that no call can read or write past the ends,
+//! and is copied elsewhere now and then: a copy has to go on as the bank would
+//! have.
 
-use crate::banks::calls::{Call, Reading};
+use crate::banks::calls::{Call, MOST_ENTRIES, Reading};
 use crate::calls::{Reply, Settings};
 use crate::live::coded::Coded;
 use crate::live::functions::{BYTES, LiveBank};
 use crate::live::hosts::Host;
-use crate::players::memory::{Guarded, Side};
+use crate::players::memory::{Guarded, Side, sizes};
 use crate::random::Random;
 use crate::reference::ACCEPTED;
 
@@ -37,9 +38,10 @@ const fn marked(number: u32, level: f32) -> Reply {
     }
 }
 
-/// The bank, in one of two places.
+/// The bank, in one of two places, and the list of a chord.
 pub struct ThroughC {
     memories: [Guarded; 2],
+    entries: Guarded,
     at: usize,
     side: Side,
     random: Random,
@@ -57,6 +59,7 @@ impl ThroughC {
     pub fn new(seed: u64) -> Result<Self, String> {
         Ok(Self {
             memories: [Guarded::new(BYTES)?, Guarded::new(BYTES)?],
+            entries: Guarded::new(size_of::<usize>() * MOST_ENTRIES)?,
             at: 0,
             side: Side::End,
             random: Random::named(seed, "copies"),
@@ -80,6 +83,17 @@ impl ThroughC {
         self.copies += 1;
     }
 
+    /// A chord, its list on the side on which the bank is.
+    fn chord(&mut self, voices: &[u64], kind: u32) -> u32 {
+        let bytes = size_of::<usize>() * voices.len();
+        let entries = sizes(self.entries.part(self.side, bytes).0);
+        for (entry, voice) in entries.iter_mut().zip(voices) {
+            *entry = *voice as usize;
+        }
+        let bank = LiveBank::of(self.memories[self.at].part(self.side, BYTES).0);
+        bank.chord(entries, kind)
+    }
+
     /// A call with any codes.
     pub fn coded(&mut self, coded: &Coded) -> u32 {
         let bank = self.bank();
@@ -88,6 +102,7 @@ impl ThroughC {
             Coded::Settings(voice, settings) => bank.set_params(*voice as usize, settings),
             Coded::SettingsForAll(settings) => bank.set_all_params(settings),
             Coded::Trigger(voice, kind) => bank.trigger(*voice as usize, *kind),
+            Coded::Chord(voices, kind) => self.chord(voices, *kind),
         }
     }
 }

@@ -84,6 +84,10 @@ impl Host for ThroughRust {
             Call::SettingsForAll(settings) => bank.set_all_params(params(&settings)),
             Call::Timing(timing) => bank.set_timing(clock(timing)),
             Call::Trigger(voice, trigger) => bank.trigger(voice as usize, kind(trigger)),
+            Call::Chord(ref voices, trigger) => {
+                let voices: Vec<usize> = voices.iter().map(|voice| *voice as usize).collect();
+                bank.chord(&voices, kind(trigger))
+            }
             Call::Release(voice) => bank.release(voice as usize),
             Call::Reset(voice) => bank.reset(voice as usize),
             Call::Join(voice, from) => bank.join(voice as usize, from as usize),

@@ -75,7 +75,7 @@ impl Draft {
         self.events.iter().map(Event::record).collect()
     }
 
-    /// The event of a call on the bank as it stands, if a record can say it.
+    /// The event of a call on the bank as it stands, if one record can say it.
     #[must_use]
     pub fn event(&self, call: &Call) -> Option<Event> {
         let byte = |number: u64| u8::try_from(number).ok();
@@ -89,7 +89,7 @@ impl Draft {
             Call::Reset(voice) => Event::Reset(byte(voice)?),
             Call::Join(voice, from) => Event::Join(byte(voice)?, byte(from)?),
             Call::Process(levels) => Event::Frames(levels / self.bank.stride() as u32),
-            Call::Read(_) => return None,
+            Call::Read(_) | Call::Chord(..) => return None,
         })
     }
 }

@@ -103,6 +103,19 @@ pub fn floats(bytes: &mut [u8]) -> &mut [f32] {
     }
 }
 
+/// The same of numbers of voices.
+///
+/// # Panics
+///
+/// They are not whole numbers, or begin at an odd place.
+pub fn sizes(bytes: &mut [u8]) -> &mut [usize] {
+    // SAFETY: any eight bytes are such a number.
+    match unsafe { bytes.align_to_mut() } {
+        ([], sizes, []) => sizes,
+        _ => panic!("these bytes are no numbers"),
+    }
+}
+
 impl Drop for Guarded {
     fn drop(&mut self) {
         // SAFETY: it is the mapping that `new` made, and nobody has it any more.

@@ -18,6 +18,7 @@ fn make(bank: &mut Bank, call: &Call) -> Result<(), Refusal> {
         14 => bank.release(voice),
         15 => bank.reset(voice),
         16 => bank.join(voice, call.source()),
+        22 => bank.chord(&call.entry_voices()[..call.entry_count()], call.trigger()),
         _ => Ok(()),
     }
 }

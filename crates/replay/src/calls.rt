@@ -1,13 +1,18 @@
-// A call, read from its 88 bytes, and made on the envelope.
+// A call, read from its 88 bytes and the entries of a chord, and made on the envelope.
 ghost use Rattle.std.specs.Prelude.{◌+◌, ◌≤◌};
 
 use envelope::Envelope;
 use settings::{EnvelopeParams, Refusal, StealRestart, Trigger};
 use timing::{TimeUnit, Timing};
 
+// The most entries of a chord, with room for lists that are refused as too long.
+pub(crate) const MOST_ENTRIES: usize = 128;
+
 #[derive(Drop)]
 pub(crate) struct Call {
     pub bytes: [u8; 88],
+    // Those past the call's count are an earlier chord's, or zeros.
+    pub entries: [[u8; 8]; MOST_ENTRIES],
 }
 
 // A code without a name counts as the last one's.
@@ -83,7 +88,7 @@ impl Call {
         }
     }
 
-    // The voice that is changed or read, or how many voices.
+    // The voice that is changed or read, or how many voices or entries.
     pub(crate) fn voice(&self) -> usize {
         self.u64_at(72) as usize
     }
@@ -93,7 +98,26 @@ impl Call {
         self.u64_at(80) as usize
     }
 
-    // The kind of a trigger.
+    // How many entries follow the 88 bytes: those of a chord, at most MOST_ENTRIES.
+    pub(crate) fn entry_count(&self) -> usize
+        ensures { result ≤ MOST_ENTRIES }
+    {
+        match self.tag() {
+            22 => self.voice().min(MOST_ENTRIES),
+            _ => 0,
+        }
+    }
+
+    // The voices that all entries name.
+    pub(crate) fn entry_voices(&self) -> [usize; MOST_ENTRIES] {
+        let mut voices = [0; MOST_ENTRIES];
+        for (voice, entry) in voices.iter_mut().zip(&self.entries) {
+            *voice = u64::from_le_bytes(*entry) as usize;
+        }
+        voices
+    }
+
+    // The kind of a trigger, and of a chord's.
     pub(crate) fn trigger(&self) -> Trigger {
         trigger(self.bytes[1])
     }

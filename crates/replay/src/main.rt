@@ -1,6 +1,6 @@
-// Answers the calls of an envelope and of a bank: 88 bytes of standard input to a call. The
-// comparison with the Rust drives it, and so does ./worfelli, which draws pictures by it; the files
-// stdin and stdout hold a few of the Rust's answers.
+// Answers the calls of an envelope and of a bank: 88 bytes of standard input to a call, and after a chord
+// its entries. The comparison with the Rust drives it, and so does ./worfelli, which draws pictures by
+// it; the files stdin and stdout hold a few of the Rust's answers.
 //
 // A call: its tag, the settings S at 1, the timing T at 48, as document 01's event list has them; then
 // two voices' numbers, eight bytes each, at 72 and at 80.
@@ -16,10 +16,11 @@
 //
 // Tags of the bank: 9 open (how many voices at 72), 10 settings, 11 settings for all, 12 timing,
 // 13 trigger, 14 release, 15 reset, 16 join (from the voice at 80), 17 process (the length of the
-// output at 1, at most 262,144), 18 readings. Its answer is the refusal's number, one word; to a
-// process all of its output follows, whatever was written to it. To readings the answer is that of the
-// envelope, with the number that refused the settings' reading; then those of stage, idle, level, tail
-// and lead, and voices and stride (two words each).
+// output at 1, at most 262,144), 18 readings, 22 chord (its trigger's kind at 1, how many entries at 72,
+// at most 128, which follow the 88 bytes, eight bytes each). Its answer is the refusal's number, one
+// word; to a process all of its output follows, whatever was written to it. To readings the answer is
+// that of the envelope, with the number that refused the settings' reading; then those of stage, idle,
+// level, tail and lead, and voices and stride (two words each).
 #![tactic(auto)]
 
 mod bank_calls;
@@ -31,7 +32,7 @@ mod replies;
 ghost use Rattle.std.specs.Prelude.{◌≤◌};
 
 use bank::Bank;
-use calls::Call;
+use calls::{Call, MOST_ENTRIES};
 use envelope::Envelope;
 use settings::{EnvelopeParams, number_of};
 use std::io;
@@ -96,7 +97,7 @@ fn answer(
 ) -> io::Result<()> {
     match call.tag() {
         0..=8 => answer_envelope(to, e, call, levels),
-        9..=18 => bank_calls::answer(to, bank, call, levels),
+        9..=18 | 22 => bank_calls::answer(to, bank, call, levels),
         _ => answer_note(to, e, call, levels),
     }
 }
@@ -110,8 +111,20 @@ fn read_whole(from: &mut impl Read, bytes: &mut [u8]) -> io::Result<bool> {
     }
 }
 
+// Reads a call, and the entries of a chord. Whether the input had so many bytes.
+fn read_call(from: &mut impl Read, call: &mut Call) -> io::Result<bool> {
+    if !read_whole(from, &mut call.bytes)? {
+        return Ok(false);
+    }
+    let entries = call.entry_count();
+    read_whole(from, call.entries[..entries].as_flattened_mut())
+}
+
 fn main(rt: HostRuntime) -> io::Result<()> {
-    let mut call = Call { bytes: [0; 88] };
+    let mut call = Call {
+        bytes: [0; 88],
+        entries: [[0; 8]; MOST_ENTRIES],
+    };
     let mut levels = [0.0; MOST_LEVELS];
     let mut bank = Bank::EMPTY;
     let amp = EnvelopeParams::AMP;
@@ -119,7 +132,7 @@ fn main(rt: HostRuntime) -> io::Result<()> {
     let _ = bank.open(0, amp, timing);
     let mut e = Envelope::fallback();
     for _ in 0..u64::MAX {
-        if !read_whole(&mut rt.stdin(), &mut call.bytes)? {
+        if !read_call(&mut rt.stdin(), &mut call)? {
             return Ok(());
         }
         answer(&mut rt.stdout(), &mut e, &mut bank, &call, &mut levels)?;

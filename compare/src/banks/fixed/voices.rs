@@ -42,8 +42,8 @@ fn counted(case: &mut Case, voices: u64, stride: u64) -> bool {
     ];
     let answered = numbers.iter().all(|&voice| {
         let expected = if voice < voices { ACCEPTED } else { VOICE };
-        named(case, voice).iter().all(|call| {
-            case.ask(*call);
+        named(case, voice).into_iter().all(|call| {
+            case.ask(call);
             case.refused(expected)
         })
     });
