@@ -18,6 +18,7 @@ static const char *reason(uint32_t refusal)
     case WORFELLI_MISPLACED_OPEN: return "a list is opened once, by its first record";
     case WORFELLI_UNNAMED_CODE: return "a code with no meaning";
     case WORFELLI_OUTPUT_TOO_SHORT: return "more levels than the output holds";
+    case WORFELLI_NOT_A_CHORD: return "a chord that names a voice twice or has over 64 entries";
     default: return "an unknown refusal";
     }
 }

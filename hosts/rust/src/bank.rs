@@ -130,6 +130,30 @@ impl EnvelopeBank {
         self.change(|state| raw::worfelli_live_trigger(state, voice, trigger as u32))
     }
 
+    /// A note starts on each of these voices, by one kind of trigger: as by a [`trigger`](Self::trigger) of
+    /// each in the list's order, but a list that is refused starts none. An empty list is accepted.
+    ///
+    /// ```
+    /// use worfelli::{EnvelopeBank, EnvelopeParams, Refusal, Stage, Timing, Trigger};
+    ///
+    /// let mut bank = EnvelopeBank::new(16, EnvelopeParams::AMP, Timing::new(48_000.0))?;
+    /// bank.chord(&[3, 7, 10], Trigger::New)?;
+    /// assert_eq!(bank.stage(7), Ok(Stage::Attack));
+    /// assert_eq!(bank.chord(&[4, 16], Trigger::New), Err(Refusal::NoSuchVoice));
+    /// assert_eq!(bank.stage(4), Ok(Stage::Idle));
+    /// assert_eq!(bank.chord(&[4, 4], Trigger::New), Err(Refusal::NotAChord));
+    /// # Ok::<(), Refusal>(())
+    /// ```
+    ///
+    /// # Errors
+    ///
+    /// [`NotAChord`](Refusal::NotAChord), if a voice is named twice, be it there or not, or the list has over
+    /// [`MAX_VOICES`](crate::MAX_VOICES) entries; and then [`NoSuchVoice`](Refusal::NoSuchVoice).
+    #[inline]
+    pub fn chord(&mut self, voices: &[usize], trigger: Trigger) -> Result<(), Refusal> {
+        Refusal::unless_accepted(raw::chord(&mut self.state, voices, trigger as u32))
+    }
+
     /// The note of a voice ends.
     ///
     /// # Errors

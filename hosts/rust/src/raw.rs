@@ -66,6 +66,7 @@ unsafe extern "C" {
         scale: f64,
     ) -> u32;
     pub(crate) safe fn worfelli_live_trigger(bank: &mut State, voice: usize, kind: u32) -> u32;
+    fn worfelli_live_chord(bank: &mut State, voices: *const usize, count: usize, kind: u32) -> u32;
     pub(crate) safe fn worfelli_live_release(bank: &mut State, voice: usize) -> u32;
     pub(crate) safe fn worfelli_live_reset(bank: &mut State, voice: usize) -> u32;
     pub(crate) safe fn worfelli_live_join(bank: &mut State, voice: usize, from: usize) -> u32;
@@ -137,6 +138,16 @@ fn assert_agreement(version: u32, size: usize) {
         "libworfelli.a is of version {version} with banks of {size} bytes, but this crate is for \
          version {VERSION} with banks of {SIZE} bytes"
     );
+}
+
+/// Triggers these voices, and answers 0 or the refusal's number.
+#[inline]
+pub(crate) fn chord(state: &mut State, voices: &[usize], kind: u32) -> u32 {
+    in_default_mode(|| {
+        // SAFETY: pointer and count are those of a slice, so the pointer is aligned and not null, an empty
+        // one's too. The voices are only read, and the state is lent mutably, so that they do not overlap.
+        unsafe { worfelli_live_chord(state, voices.as_ptr(), voices.len(), kind) }
+    })
 }
 
 /// Writes the next frames, and answers 0 or the refusal's number.
@@ -263,6 +274,8 @@ mod tests {
                 worfelli_live_set_params(&mut state, voice, &[0.25; 11], &[1; 3]);
                 kept(&state);
                 worfelli_live_trigger(&mut state, voice, 0);
+                kept(&state);
+                chord(&mut state, &[voice, 2], 1);
                 kept(&state);
                 process(&mut state, &mut [0.0; 192]);
                 kept(&state);

@@ -5,7 +5,7 @@ use std::fmt;
 
 /// What a bank's call or a list can be refused by. Later versions may know more.
 ///
-/// A call is refused by 1 to 5, a list by all of them but 5.
+/// A call is refused by 1 to 5 and 12, a list by all of them but 5 and 12.
 #[derive(Clone, Copy, Debug, PartialEq, Eq, Hash)]
 #[non_exhaustive]
 pub enum Refusal {
@@ -31,10 +31,12 @@ pub enum Refusal {
     UnnamedCode = 10,
     /// 11: more levels than the output holds.
     OutputTooShort = 11,
+    /// 12: a chord that names a voice twice, or has over [`MAX_VOICES`](crate::MAX_VOICES) entries.
+    NotAChord = 12,
 }
 
 impl Refusal {
-    const ALL: [Self; 11] = [
+    const ALL: [Self; 12] = [
         Self::TooManyVoices,
         Self::NoSuchVoice,
         Self::TimeOver,
@@ -46,6 +48,7 @@ impl Refusal {
         Self::MisplacedOpen,
         Self::UnnamedCode,
         Self::OutputTooShort,
+        Self::NotAChord,
     ];
 
     /// Its number, as in docs/FORMAT.md.
@@ -92,6 +95,7 @@ impl fmt::Display for Refusal {
             Self::MisplacedOpen => "a list is opened once, by its first record",
             Self::UnnamedCode => "a code with no meaning",
             Self::OutputTooShort => "more levels than the output holds",
+            Self::NotAChord => "a chord that names a voice twice or has over 64 entries",
         })
     }
 }
@@ -128,8 +132,8 @@ mod tests {
     }
 
     #[test]
-    #[should_panic(expected = "refuses by 12, which")]
+    #[should_panic(expected = "refuses by 13, which")]
     fn unknown_number() {
-        let _ = Refusal::numbered(12);
+        let _ = Refusal::numbered(13);
     }
 }
