@@ -82,6 +82,19 @@ uint32_t compare_calls(worfelli_bank *bank, const compare_sound *sound, uint32_t
     return refusals;
 }
 
+/* So many chords by a kind of trigger, each of the next `size` of all voices in turn. */
+uint32_t compare_chords(worfelli_bank *bank, const size_t *turn, size_t size, uint32_t trigger, uint32_t chords)
+{
+    const size_t voices = worfelli_bank_voices(bank);
+    uint32_t refusals = 0;
+    size_t first = 0;
+    for (uint32_t made = 0; made < chords; made++) {
+        refusals |= worfelli_bank_chord(bank, turn + first, size, trigger);
+        first = first + 2 * size <= voices ? first + size : 0;
+    }
+    return refusals;
+}
+
 /* So many openings. */
 uint32_t compare_opens(worfelli_bank *bank, size_t voices, const compare_sound *sound, uint32_t times)
 {

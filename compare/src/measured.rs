@@ -14,7 +14,7 @@ pub mod through_rust;
 use std::hint::black_box;
 
 use crate::banks::refusals::stride;
-use asked::{Kind, Opening, Query, Sound};
+use asked::{Chord, Kind, Opening, Query, Sound, VOICES};
 
 /// What is measured, which holds voices. What is asked is never refused.
 pub trait Measured: Sized {
@@ -46,11 +46,22 @@ pub trait Measured: Sized {
     /// So many calls of a kind on the voices in turn.
     fn calls(&mut self, sound: Sound, kind: Kind, calls: u32);
 
+    /// So many chords, each of the next voices in turn, of which there are a
+    /// multiple: as calls on each, where none is for a chord.
+    fn chords(&mut self, sound: Sound, chord: Chord, chords: u32) {
+        self.calls(sound, chord.kind(), chords * chord.voices as u32);
+    }
+
     /// So many blocks, each into `out`.
     fn blocks(&mut self, out: &mut [f32], blocks: u32);
 
     /// The sum of so many readings of the voices in turn, modulo 2^64.
     fn readings(&self, query: Query, times: u32) -> u64;
+}
+
+/// The voices of chords, in turn.
+fn turn() -> [usize; VOICES] {
+    std::array::from_fn(|voice| voice)
 }
 
 /// The voice after this one, in turn.

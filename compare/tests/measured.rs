@@ -4,8 +4,8 @@
 
 use compare::live::functions::LiveBank;
 use compare::measured::Measured;
-use compare::measured::asked::{KINDS, Kind, Opening, QUERIES, Query, Sound};
-use compare::rust::envelope::{Envelope, EnvelopeBank};
+use compare::measured::asked::{Chord, KINDS, Kind, Opening, QUERIES, Query, Sound};
+use compare::rust::envelope::{Envelope, EnvelopeBank, Trigger};
 
 const SOUND: Sound = Sound {
     sample_rate: 48_000.0,
@@ -48,6 +48,36 @@ fn asked_of<M: Measured>(opening: Opening, kinds: &[Kind], queries: &[Query]) ->
     note(&out);
     answers.extend(sums);
     answers
+}
+
+/// Two chords of so many voices by each kind of trigger, and blocks after them:
+/// the levels' bits.
+fn chords_of<M: Measured>(opening: Opening, voices: usize) -> Vec<u32> {
+    let mut measured = M::triggered(opening);
+    let mut out = vec![2.0; 300 * M::levels(opening.voices)];
+    let mut answers = Vec::new();
+    for trigger in [Trigger::New, Trigger::Retrigger, Trigger::Legato] {
+        measured.chords(opening.sound, Chord { trigger, voices }, 2);
+        measured.blocks(&mut out, 2);
+        answers.extend(out.iter().map(|level| level.to_bits()));
+    }
+    answers
+}
+
+#[test]
+fn chords() {
+    for (opening, voices) in [
+        (opening(64, 40), 4),
+        (opening(64, 64), 64),
+        (opening(18, 9), 6),
+        (opening(1, 0), 1),
+    ] {
+        let rust = chords_of::<EnvelopeBank>(opening, voices);
+        let over_c = chords_of::<LiveBank>(opening, voices);
+        assert_eq!(over_c, rust, "C, {opening:?}");
+        let through_crate = chords_of::<worfelli::EnvelopeBank>(opening, voices);
+        assert_eq!(through_crate, rust, "the crate, {opening:?}");
+    }
 }
 
 #[test]

@@ -4,8 +4,8 @@
 use std::hint::black_box;
 
 use compare::measured::Measured;
-use compare::measured::asked::{Kind, Opening, Query, VOICES};
-use compare::rust::envelope::EnvelopeBank;
+use compare::measured::asked::{Chord, Kind, Opening, Query, VOICES};
+use compare::rust::envelope::{EnvelopeBank, Trigger};
 
 use crate::passes::{BENT, Call, STRAIGHT, figures, head, row, sounding, timed};
 use crate::{medians, nanoseconds};
@@ -27,6 +27,13 @@ pub const KINDS: [(&str, Kind, u32); 12] = [
     ("`set_timing`, another time scale", Kind::OtherTiming, 2),
 ];
 
+/// How rows name the chords.
+const CHORDS: [(&str, Trigger); 3] = [
+    ("new notes", Trigger::New),
+    ("retriggers", Trigger::Retrigger),
+    ("legato notes", Trigger::Legato),
+];
+
 /// How rows name the readings: those of a voice, then those of a bank.
 pub const READINGS: [(&str, Query); 8] = [
     ("`params`, its decay's bits", Query::Params),
@@ -43,6 +50,7 @@ pub const READINGS: [(&str, Query); 8] = [
 pub fn print() {
     blocks();
     calls();
+    chords();
     planning();
     readings();
 }
@@ -106,6 +114,21 @@ fn calls() {
     for (about, kind, each) in KINDS {
         let times = timed(opening, Call::Of(kind));
         row(about, times.map(|call| call / f64::from(each)), 2);
+    }
+}
+
+/// Chords of a bank of 64 voices, each sounding a bent decay, which a legato
+/// note leaves alone.
+fn chords() {
+    head("A chord of | Voices", "ns a voice", "");
+    println!("|---|---:|---:|---:|---:|---:|---:|");
+    for (about, trigger) in CHORDS {
+        for voices in [4, 16, VOICES] {
+            let chord = Call::Chord(Chord { trigger, voices });
+            let times = timed(sounding(BENT, VOICES), chord);
+            let each = times.map(|chord| chord / voices as f64);
+            row(&format!("{about} | {voices}"), each, 2);
+        }
     }
 }
 

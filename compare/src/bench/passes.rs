@@ -10,7 +10,7 @@ use std::time::Instant;
 
 use compare::live::functions::LiveBank;
 use compare::measured::Measured;
-use compare::measured::asked::{Kind, Opening, Query, Sound};
+use compare::measured::asked::{Chord, Kind, Opening, Query, Sound};
 use compare::rust::envelope;
 
 use crate::medians;
@@ -46,6 +46,7 @@ pub const STRAIGHT: Sound = Sound {
 pub enum Call {
     Open,
     Of(Kind),
+    Chord(Chord),
     Read(Query),
     /// A block of so many frames.
     Block(usize),
@@ -60,6 +61,7 @@ impl Call {
             Self::Open => ON_ALL,
             Self::Of(kind) if kind.is_for_all() => ON_ALL,
             Self::Of(_) => ON_ONE,
+            Self::Chord(chord) => ON_ONE / chord.voices as u32,
             Self::Read(_) => READ,
             Self::Block(frames) => {
                 (LEVELS / (frames * LiveBank::levels(voices))).min(BLOCKS) as u32
@@ -134,6 +136,7 @@ fn once<M: Measured>(opening: Opening, call: Call, out: &mut [f32]) -> (f64, u64
     match black_box(call) {
         Call::Open => measured.opens(opening, times),
         Call::Of(kind) => measured.calls(opening.sound, kind, times),
+        Call::Chord(chord) => measured.chords(opening.sound, chord, times),
         Call::Read(query) => sum = measured.readings(query, times),
         Call::Block(_) => measured.blocks(out, times),
         Call::Take(_) => fresh.insert(M::triggered(opening)).blocks(out, times),

@@ -193,7 +193,9 @@ pub fn clock(timing: envelope::Timing) -> Timing {
     }
 }
 
-fn kind(trigger: envelope::Trigger) -> Trigger {
+/// The crate's kind of trigger of the Rust's.
+#[must_use]
+pub fn kind(trigger: envelope::Trigger) -> Trigger {
     match trigger {
         envelope::Trigger::New => Trigger::New,
         envelope::Trigger::Retrigger => Trigger::Retrigger,

@@ -1,7 +1,7 @@
 //! What is asked of a bank that is measured: the sound of its voices, and the
 //! kinds of calls and of readings, by the numbers that live/loops.c has for them.
 
-use crate::rust::envelope::{EnvelopeParams, Timing};
+use crate::rust::envelope::{EnvelopeParams, Timing, Trigger};
 
 /// The Rust's AMP with this attack, decay and sustain, and a sample rate.
 #[derive(Clone, Copy, Debug)]
@@ -96,6 +96,25 @@ pub const KINDS: [Kind; 12] = [
     Kind::Timing,
     Kind::OtherTiming,
 ];
+
+/// A chord of so many voices.
+#[derive(Clone, Copy, Debug)]
+pub struct Chord {
+    pub trigger: Trigger,
+    pub voices: usize,
+}
+
+impl Chord {
+    /// What each of its voices gets, as calls of their own.
+    #[must_use]
+    pub fn kind(self) -> Kind {
+        match self.trigger {
+            Trigger::New => Kind::Trigger,
+            Trigger::Retrigger => Kind::Retrigger,
+            Trigger::Legato => Kind::Legato,
+        }
+    }
+}
 
 /// A reading, as a number: of settings the bits of their decay.
 #[derive(Clone, Copy, Debug, PartialEq, Eq)]

@@ -2,9 +2,9 @@
 
 use worfelli::{EnvelopeBank, Refusal, Trigger};
 
-use crate::live::through_rust::{clock, params, stage};
-use crate::measured::asked::{Kind, Opening, Query, Sound};
-use crate::measured::{Measured, after, turns};
+use crate::live::through_rust::{clock, kind, params, stage};
+use crate::measured::asked::{Chord, Kind, Opening, Query, Sound};
+use crate::measured::{Measured, after, turn, turns};
 
 impl Measured for EnvelopeBank {
     fn opened(opening: Opening) -> Self {
@@ -24,6 +24,15 @@ impl Measured for EnvelopeBank {
         let voices = self.voices();
         for voice in turns(voices, calls) {
             call(self, &sound, kind, voice, voices).expect("a call");
+        }
+    }
+
+    #[inline(never)]
+    fn chords(&mut self, _: Sound, chord: Chord, chords: u32) {
+        let turn = turn();
+        let in_turn = turn[..self.voices()].chunks_exact(chord.voices).cycle();
+        for voices in in_turn.take(chords as usize) {
+            self.chord(voices, kind(chord.trigger)).expect("a chord");
         }
     }
 
