@@ -60,7 +60,9 @@ pub fn time_at(k: f64, v: f64) -> f64
 
 // The curve's level p samples in, of n; both counts are exact in binary64, since under document 01's limits
 // they are below 2^53.
-// No closure of `segment`, whose captures would go through memory: it took 1 % more of planning.
+// No closure of `segment`, whose captures would go through memory: it took 1 % more of planning. In line, since by
+// calls planning takes a third longer.
+#[inline(always)]
 fn at(from: f64, span: f64, k: f64, n: f64, p: u64) -> f64
     ensures { result ≡ Curves.at from span k n p }
 {

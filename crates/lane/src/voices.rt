@@ -46,6 +46,7 @@ fn stages_last(p: EnvelopeParams, timing: Timing, first: Stage, first_level: f32
 // length, and only the rest is on the new curve; if there is no rest, the next stage begins at the new
 // target. An untimed stage has no time to change in, and is at its new level with the next frame. The plan
 // and its segment come by themselves, since a voice put together for the call would be one copy more.
+#[inline(always)]
 fn replanned(lane: Lane, seg: Segment, timing: Timing) -> Voice
     ensures { result ≡ Voices.replan timing (record { lane = lane; seg = seg }) }
 {
