@@ -1,24 +1,26 @@
 -- The voices of a chord, one after the other. A voice that is missing refuses what is left of the list, and one that is there leaves it to the rest
 -- (`refused_here`, `refused_on`). `Triggering` is the invariant of the notes: those that are left, in the bank that the arrays now hold, are the whole chord
--- in the first one. `triggering-more` is its step: a voice that is triggered in the arrays is triggered in the bank.
+-- in the first one. Its steps: a voice that is triggered in the arrays is triggered in the bank (`triggering-more`), and one that the note leaves alone
+-- stays as it is in both (`triggering-left`).
 use mathlib.Core.Path.{◌≡◌, refl, sym, ap, ◌∙◌}
-use mathlib.Core.Bool.{Bool, true, false, cond, ◌||◌}
+use mathlib.Core.Bool.{Bool, true, false, cond}
 use mathlib.Core.List.{List}
 use Prim.Native.Nat.{ℕ, ◌+◌, ◌≤◌, ◌<◌}
 use native.Mathlib.Omega.{arith}
 use borrow.Author.Tests.{lt-ltb, le-ltb}
-use lib.Dec.{ltb}
 use lib.ListN.{length, get_or, drop}
 use Rattle.std.specs.List.{fold}
-use Rattle.std.proofs.lemmas.List.{at_drop_more}
+use Rattle.std.proofs.lemmas.List.{set-get_or, at_drop_more}
 use Rattle.settings.specs.declared.settings.Trigger.{Trigger}
+use Rattle.settings.specs.Settings.{amp}
 use Rattle.lane.specs.declared.lanes.Voice.{Voice}
+use Rattle.lane.specs.Planning as Planning
 use Rattle.lane.specs.Voices as Voices
 use Rattle.memory.specs.declared.arrays.Arrays.{Arrays}
 use Rattle.memory.specs.Memory.{voices_at, count_of, timing_at, loaded, Stored}
 use Rattle.memory.proofs.Storing.{room, same_self, same_trans}
 use Rattle.bank.specs.declared.known.Known.{Known}
-use Rattle.bank.specs.Calls.{voices_refusal, names_twice, chord_refusal}
+use Rattle.bank.specs.Calls.{voices_refusal, chord_refusal}
 use Rattle.bank.specs.Banks.{Bank, bank_of, known, size, voice, put, triggered}
 use Rattle.bank.specs.Lent.{KeptFrom}
 use Rattle.bank.proofs.Accepted.{voice_there}
@@ -61,28 +63,51 @@ triggered-stored v x m m' h S =
     bank-stored v _ m m' S h
     ∙ ap (λ (y : Voice). put v (Voices.trigger (timing_at m.bends) x y) (bank_of m)) e
 
+-- A voice that a note leaves alone is as it was in the bank too.
+triggered-alone : (v : ℕ) (x : Trigger) (m : Arrays) → v < count_of m.codes → Voices.leaves_alone x (loaded m v) ≡ true → triggered x (bank_of m) v ≡ bank_of m
+unfolding Voices.trigger
+triggered-alone v x m h a =
+    let e : loaded m v ≡ voice (bank_of m) v = room v _ _ (omega (arith, h)) ∙ sym (voice_of_lem m v h) in
+    let same : Voices.trigger (bank_of m).timing x (voice (bank_of m) v) ≡ voice (bank_of m) v = rw (← e, a) refl in
+    ap (λ (y : Voice). put v y (bank_of m)) same
+    ∙ ap {B = Bank} (λ (l : List Voice). record { timing = (bank_of m).timing; voices = l }) (set-get_or (bank_of m).voices v (Planning.new amp))
+
 module _ (vs : List ℕ) (x : Trigger) (m : Arrays) where
   pub triggering-start : voices_refusal (known (bank_of m)) vs ≡ 0 → Triggering vs x m 0 m
   triggering-start e = record { bank = refl; there = e; beside = λ w i j. same_self w m; voices = refl; timing = refl }
 
-  pub triggering-more : (i : ℕ) (m' m'' : Arrays) → i < length vs → Triggering vs x m i m'
-      → Stored (get_or vs i 0) (Voices.trigger (timing_at m.bends) x (loaded m' (get_or vs i 0))) m' m'' → Triggering vs x m (i + 1) m''
-  triggering-more i m' m'' h C S =
-      record {
-        bank =
-            ap (λ (b : Bank). fold (triggered x) b (drop (i + 1) vs)) (triggered-stored v x m' m'' here (rw C.timing S))
-            ∙ sym (at_drop_more (fold (triggered x) (bank_of m')) vs i 0 h) ∙ C.bank;
-        there = q.1;
-        beside = λ w j l. same_trans w m m' m'' (C.beside w j l) (S.there w l (λ e. omega (arith, e, j, q.0, size_of m)));
-        voices = S.voices ∙ C.voices;
-        timing = S.timing ∙ C.timing;
-      }
-    where
-      v : ℕ
-      v = get_or vs i 0
+  module _ (i : ℕ) (m' : Arrays) (h : i < length vs) (C : Triggering vs x m i m') where
+    abbrev v : ℕ
+    v = get_or vs i 0
 
-      q : (v < size (bank_of m)) × (voices_refusal (known (bank_of m)) (drop (i + 1) vs) ≡ 0)
-      q = voice_there (known (bank_of m)) v _ (sym (at_drop_more (voices_refusal (known (bank_of m))) vs i 0 h) ∙ C.there)
+    -- The next voice is there, and so are those after it.
+    next : (v < size (bank_of m)) × (voices_refusal (known (bank_of m)) (drop (i + 1) vs) ≡ 0)
+    next = voice_there (known (bank_of m)) v _ (sym (at_drop_more (voices_refusal (known (bank_of m))) vs i 0 h) ∙ C.there)
 
-      here : v < count_of m'.codes
-      here = omega (arith, q.0, size_of m, counts_same m m' C.voices)
+    here : v < count_of m'.codes
+    here = omega (arith, next.0, size_of m, counts_same m m' C.voices)
+
+    -- The notes that are left, once the next has begun.
+    rest : (b : Bank) → b ≡ triggered x (bank_of m') v → fold (triggered x) b (drop (i + 1) vs) ≡ fold (triggered x) (bank_of m) vs
+    rest b e =
+        ap (λ (b : Bank). fold (triggered x) b (drop (i + 1) vs)) e ∙ sym (at_drop_more (fold (triggered x) (bank_of m')) vs i 0 h) ∙ C.bank
+
+    pub triggering-more : (m'' : Arrays) → Stored v (Voices.trigger (timing_at m.bends) x (loaded m' v)) m' m'' → Triggering vs x m (i + 1) m''
+    triggering-more m'' S =
+        record {
+          bank = rest (bank_of m'') (triggered-stored v x m' m'' here (rw C.timing S));
+          there = next.1;
+          beside = λ w j l. same_trans w m m' m'' (C.beside w j l) (S.there w l (λ e. omega (arith, e, j, next.0, size_of m)));
+          voices = S.voices ∙ C.voices;
+          timing = S.timing ∙ C.timing;
+        }
+
+    pub triggering-left : Voices.leaves_alone x (loaded m' v) ≡ true → Triggering vs x m (i + 1) m'
+    triggering-left a =
+        record {
+          bank = rest (bank_of m') (sym (triggered-alone v x m' here a));
+          there = next.1;
+          beside = C.beside;
+          voices = C.voices;
+          timing = C.timing;
+        }

@@ -2,6 +2,8 @@
 // before the first voice is touched.
 ghost use Rattle.std.specs.Prelude.{◌≡◌};
 ghost use Rattle.settings.specs.Refusals as Refusals;
+ghost use Rattle.lane.specs.Voices as Voices;
+ghost use Rattle.memory.specs.Memory as Memory;
 ghost use Rattle.bank.specs.Banks as Banks;
 ghost use Rattle.bank.specs.Calls as Calls;
 ghost use Rattle.bank.specs.Calls.{Call};
@@ -54,6 +56,13 @@ fn check_chord(m: &Arrays, voices: &[usize]) -> Result<(), Refusal>
     check_voices(m, voices)
 }
 
+// Whether a note leaves the voice v as it is: it is then not stored again.
+fn leaves_alone(m: &Arrays, v: usize, trigger: Trigger) -> bool
+    ensures { result ≡ Voices.leaves_alone trigger (Memory.loaded m.now v) }
+{
+    m.load(v).leaves_alone(trigger)
+}
+
 // A note for each of the voices.
 fn trigger_voices(m: &mut Arrays, voices: &[usize], trigger: Trigger)
     requires { Calls.voices_refusal (Banks.known (Banks.bank_of m.now)) voices.now ≡ 0 }
@@ -61,7 +70,9 @@ fn trigger_voices(m: &mut Arrays, voices: &[usize], trigger: Trigger)
 {
     let timing = m.timing();
     for voice in voices {
-        change_voice(m, *voice, timing, Change::Trigger(trigger));
+        if !leaves_alone(m, *voice, trigger) {
+            change_voice(m, *voice, timing, Change::Trigger(trigger));
+        }
     }
 }
 

@@ -68,7 +68,7 @@ fn replanned(lane: Lane, seg: Segment, timing: Timing) -> Voice
 impl Voice {
     // Whether a trigger leaves the running envelope alone: a legato note on a sounding voice goes on with
     // the envelope of the note before it, so that the two have one attack, unless the settings ask for two.
-    fn leaves_alone(self, trigger: Trigger) -> bool
+    pub fn leaves_alone(self, trigger: Trigger) -> bool
         ensures { result ≡ Voices.leaves_alone trigger self }
     {
         match trigger {
