@@ -18,13 +18,13 @@ use Rattle.lane.specs.Planning as Planning
 use Rattle.lane.specs.Voices as Voices
 use Rattle.memory.specs.declared.arrays.Arrays.{Arrays}
 use Rattle.memory.specs.Memory.{voices_at, count_of, timing_at, loaded, Stored}
-use Rattle.memory.proofs.Storing.{room, same_self, same_trans}
+use Rattle.memory.proofs.Storing.{same_self, same_trans}
 use Rattle.bank.specs.declared.known.Known.{Known}
 use Rattle.bank.specs.Calls.{voices_refusal, chord_refusal}
 use Rattle.bank.specs.Banks.{Bank, bank_of, known, size, voice, put, triggered}
 use Rattle.bank.specs.Lent.{KeptFrom}
 use Rattle.bank.proofs.Accepted.{voice_there}
-use Rattle.bank.proofs.Representation.{size_of, voice_of_lem, counts_same, bank-stored}
+use Rattle.bank.proofs.Representation.{size_of, loaded_voice, counts_same, bank-stored}
 
 -- ---- the list's refusal
 
@@ -59,16 +59,13 @@ triggered-stored : (v : ℕ) (x : Trigger) (m m' : Arrays) → v < count_of m.co
     → Stored v (Voices.trigger (timing_at m.bends) x (loaded m v)) m m' → bank_of m' ≡ triggered x (bank_of m) v
 unfolding bank_of
 triggered-stored v x m m' h S =
-    let e : loaded m v ≡ voice (bank_of m) v = room v _ _ (omega (arith, h)) ∙ sym (voice_of_lem m v h) in
-    bank-stored v _ m m' S h
-    ∙ ap (λ (y : Voice). put v (Voices.trigger (timing_at m.bends) x y) (bank_of m)) e
+    bank-stored v _ m m' S h ∙ ap (λ (y : Voice). put v (Voices.trigger (timing_at m.bends) x y) (bank_of m)) (loaded_voice m v h)
 
 -- A voice that a note leaves alone is as it was in the bank too.
 triggered-alone : (v : ℕ) (x : Trigger) (m : Arrays) → v < count_of m.codes → Voices.leaves_alone x (loaded m v) ≡ true → triggered x (bank_of m) v ≡ bank_of m
 unfolding Voices.trigger
 triggered-alone v x m h a =
-    let e : loaded m v ≡ voice (bank_of m) v = room v _ _ (omega (arith, h)) ∙ sym (voice_of_lem m v h) in
-    let same : Voices.trigger (bank_of m).timing x (voice (bank_of m) v) ≡ voice (bank_of m) v = rw (← e, a) refl in
+    let same : Voices.trigger (bank_of m).timing x (voice (bank_of m) v) ≡ voice (bank_of m) v = rw (← loaded_voice m v h, a) refl in
     ap (λ (y : Voice). put v y (bank_of m)) same
     ∙ ap {B = Bank} (λ (l : List Voice). record { timing = (bank_of m).timing; voices = l }) (set-get_or (bank_of m).voices v (Planning.new amp))
 

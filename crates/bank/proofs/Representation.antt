@@ -43,6 +43,10 @@ pub voice_of_lem : (m : Arrays) (v : ℕ) → v < count_of m.codes → voice (ba
 unfolding bank_of
 voice_of_lem m v h = get_d_tabulate (count_of m.codes) (voice_at m) v (Planning.new amp) h
 
+-- The voice that is loaded is the bank's.
+pub loaded_voice : (m : Arrays) (v : ℕ) → v < count_of m.codes → loaded m v ≡ voice (bank_of m) v
+loaded_voice m v h = room v (voice_at m v) _ (omega (arith, h)) ∙ sym (voice_of_lem m v h)
+
 pub timing_of_lem : (m : Arrays) → (bank_of m).timing ≡ timing_at m.bends
 unfolding bank_of
 timing_of_lem m = refl
@@ -75,7 +79,7 @@ pub one-done : (v : ℕ) (g : Voice → Voice) (y : Voice) (m m' : Arrays) → v
 one-done v g y m m' h e S =
     record {
       refusal = sym (rw (lt-ltb v (size (bank_of m)) (omega (arith, h, size_of m))));
-      bank = bank-stored v y m m' S h ∙ ap (λ (x : Voice). put v x (bank_of m)) (e ∙ ap g (room v (voice_at m v) _ (omega (arith, h)) ∙ sym (voice_of_lem m v h)));
+      bank = bank-stored v y m m' S h ∙ ap (λ (x : Voice). put v x (bank_of m)) (e ∙ ap g (loaded_voice m v h));
       kept = record { refused = λ d. absurd (d refl); beside = λ w i j. S.there w j (λ q. omega (arith, h, i, q)) };
     }
 

@@ -1,17 +1,16 @@
 -- `join`: the code tests first for the voice to copy, the definition for the one that changes; both refuse by 2, so the number is the same (`both`).
--- Else the voice that was loaded is the bank's (`voice_of_lem`), and what `with` ensures of one voice is the bank's answer (`of_one`).
+-- Else the voice that was loaded is the bank's (`loaded_voice`), and what `with` ensures of one voice is the bank's answer (`of_one`).
 use mathlib.Core.Path.{◌≡◌, sym, ap, ◌∙◌}
 use native.Mathlib.Omega.{arith}
 use borrow.Author.Tests.{lt-ltb, le-ltb}
 use Rattle.settings.specs.Refusals.{number}
 use Rattle.lane.specs.declared.lanes.Voice.{Voice}
 use Rattle.memory.specs.Memory.{timing_at}
-use Rattle.memory.proofs.Storing.{room}
 use Rattle.bank.specs.declared.changes.Change.TheVariants.{Join}
 use Rattle.bank.specs.Calls.{Call, voice_refusal, refusal}
 use Rattle.bank.specs.Banks.{bank_of, size, known, voice, put, after_accepted}
 use Rattle.bank.specs.Parts.{changed}
-use Rattle.bank.proofs.Representation.{size_of, voice_of_lem}
+use Rattle.bank.proofs.Representation.{size_of, loaded_voice}
 use Rattle.bank.proofs.Answers.{propagated, of_one, both}
 use Rattle.bank.proofs.banks.Bank.join.Goals as goal
 
@@ -32,7 +31,7 @@ returns c =
     let a = c.args in
     let m = a.self.now.arrays in
     let n = c.in_ok-check.ensures in
-    let e : c.load-source.result ≡ voice (bank_of m) a.from = c.load-source.ensures ∙ room a.from _ _ (omega (arith, n)) ∙ sym (voice_of_lem m a.from n) in
+    let e : c.load-source.result ≡ voice (bank_of m) a.from = c.load-source.ensures ∙ loaded_voice m a.from n in
     let r = of_one (Call.join a.voice a.from) m a.voice (changed (timing_at m.bends) (Join c.load-source.result))
     (rw (lt-ltb a.from (size (bank_of m)) (omega (arith, n, size_of m)))) (ap (λ (x : Voice). put a.voice x (bank_of m)) (sym e)) _ _ c.with.ensures in
     record { refusal = r.0; bank = r.1.0; kept = r.1.1 }
