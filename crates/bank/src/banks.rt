@@ -8,7 +8,7 @@ use settings::Refusal;
 
 // Up to 64 voices under one clock. Whatever its numbers are, they are some bank, so that a host can keep
 // it as plain data.
-#[derive(Drop)]
+#[derive(Clone, Copy)]
 #[repr(C)]
 pub struct Bank {
     pub arrays: Arrays,

@@ -33,7 +33,7 @@ pub const CODES: usize = 389;
 pub type Codes = [u32; CODES];
 
 // A bank's numbers. They lie in the host's memory, so in the order that C has them in.
-#[derive(Drop)]
+#[derive(Clone, Copy)]
 #[repr(C)]
 pub struct Arrays {
     pub bends: Bends,
