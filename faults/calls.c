@@ -6,20 +6,20 @@
 
 /* The library's functions, or the same code's compiled otherwise. */
 struct functions {
-    __typeof__(worfelli_live_open) *open;
-    __typeof__(worfelli_live_set_params) *set_params;
-    __typeof__(worfelli_live_set_all_params) *set_all_params;
-    __typeof__(worfelli_live_set_timing) *set_timing;
-    __typeof__(worfelli_live_trigger) *trigger;
-    __typeof__(worfelli_live_chord) *chord;
-    __typeof__(worfelli_live_release) *release, *reset;
-    __typeof__(worfelli_live_join) *join;
-    __typeof__(worfelli_live_process) *process;
-    __typeof__(worfelli_live_voices) *voices, *stride;
-    __typeof__(worfelli_live_params) *params;
-    __typeof__(worfelli_live_stage) *stage, *is_idle;
-    __typeof__(worfelli_live_level) *level;
-    __typeof__(worfelli_live_tail) *tail, *lead;
+    __typeof__(worfelli_struct_open) *open;
+    __typeof__(worfelli_struct_set_params) *set_params;
+    __typeof__(worfelli_struct_set_all_params) *set_all_params;
+    __typeof__(worfelli_struct_set_timing) *set_timing;
+    __typeof__(worfelli_struct_trigger) *trigger;
+    __typeof__(worfelli_struct_chord) *chord;
+    __typeof__(worfelli_struct_release) *release, *reset;
+    __typeof__(worfelli_struct_join) *join;
+    __typeof__(worfelli_struct_process) *process;
+    __typeof__(worfelli_struct_voices) *voices, *stride;
+    __typeof__(worfelli_struct_params) *params;
+    __typeof__(worfelli_struct_stage) *stage, *is_idle;
+    __typeof__(worfelli_struct_level) *level;
+    __typeof__(worfelli_struct_tail) *tail, *lead;
 };
 
 #define FUNCTIONS(of) \
@@ -27,23 +27,23 @@ struct functions {
       of##_reset, of##_join, of##_process, of##_voices, of##_stride, of##_params, of##_stage, of##_is_idle, \
       of##_level, of##_tail, of##_lead }
 
-static const struct functions library = FUNCTIONS(worfelli_live);
+static const struct functions library = FUNCTIONS(worfelli_struct);
 #ifdef GUIDE
-extern __typeof__(worfelli_live_open) guide_live_open;
-extern __typeof__(worfelli_live_set_params) guide_live_set_params;
-extern __typeof__(worfelli_live_set_all_params) guide_live_set_all_params;
-extern __typeof__(worfelli_live_set_timing) guide_live_set_timing;
-extern __typeof__(worfelli_live_trigger) guide_live_trigger;
-extern __typeof__(worfelli_live_chord) guide_live_chord;
-extern __typeof__(worfelli_live_release) guide_live_release, guide_live_reset;
-extern __typeof__(worfelli_live_join) guide_live_join;
-extern __typeof__(worfelli_live_process) guide_live_process;
-extern __typeof__(worfelli_live_voices) guide_live_voices, guide_live_stride;
-extern __typeof__(worfelli_live_params) guide_live_params;
-extern __typeof__(worfelli_live_stage) guide_live_stage, guide_live_is_idle;
-extern __typeof__(worfelli_live_level) guide_live_level;
-extern __typeof__(worfelli_live_tail) guide_live_tail, guide_live_lead;
-static const struct functions guide = FUNCTIONS(guide_live);
+extern __typeof__(worfelli_struct_open) guide_struct_open;
+extern __typeof__(worfelli_struct_set_params) guide_struct_set_params;
+extern __typeof__(worfelli_struct_set_all_params) guide_struct_set_all_params;
+extern __typeof__(worfelli_struct_set_timing) guide_struct_set_timing;
+extern __typeof__(worfelli_struct_trigger) guide_struct_trigger;
+extern __typeof__(worfelli_struct_chord) guide_struct_chord;
+extern __typeof__(worfelli_struct_release) guide_struct_release, guide_struct_reset;
+extern __typeof__(worfelli_struct_join) guide_struct_join;
+extern __typeof__(worfelli_struct_process) guide_struct_process;
+extern __typeof__(worfelli_struct_voices) guide_struct_voices, guide_struct_stride;
+extern __typeof__(worfelli_struct_params) guide_struct_params;
+extern __typeof__(worfelli_struct_stage) guide_struct_stage, guide_struct_is_idle;
+extern __typeof__(worfelli_struct_level) guide_struct_level;
+extern __typeof__(worfelli_struct_tail) guide_struct_tail, guide_struct_lead;
+static const struct functions guide = FUNCTIONS(guide_struct);
 #endif
 
 static const struct functions *functions_of(size_t holder)
@@ -134,6 +134,37 @@ static uint32_t by_exports(void)
     }
 }
 
+#define TO h->to_arrays.floats, h->to_arrays.bends, h->to_arrays.counts, h->to_arrays.codes
+#define FROM h->from_arrays.floats, h->from_arrays.bends, h->from_arrays.counts, h->from_arrays.codes
+
+static uint32_t by_arrays(void)
+{
+    const struct holder *h = &holders[call.holder];
+    const struct asked *a = call.asked;
+    switch (a->kind) {
+    case ASK_OPEN:
+        return worfelli_live_open(TO, a->voice, call.numbers, call.named, a->timing.sample_rate, a->timing.tempo,
+                                  a->timing.scale);
+    case ASK_SET_PARAMS: return worfelli_live_set_params(TO, a->voice, call.numbers, call.named);
+    case ASK_SET_ALL_PARAMS: return worfelli_live_set_all_params(TO, call.numbers, call.named);
+    case ASK_SET_TIMING:
+        return worfelli_live_set_timing(TO, a->timing.sample_rate, a->timing.tempo, a->timing.scale);
+    case ASK_TRIGGER: return worfelli_live_trigger(TO, a->voice, a->trigger);
+    case ASK_RELEASE: return worfelli_live_release(TO, a->voice);
+    case ASK_RESET: return worfelli_live_reset(TO, a->voice);
+    case ASK_JOIN: return worfelli_live_join(TO, a->voice, a->from);
+    case ASK_CHORD: return worfelli_live_chord(TO, call.chord, call.entries, a->trigger);
+    case ASK_PROCESS: return worfelli_live_process(TO, call.out, call.levels);
+    case ASK_PARAMS: return worfelli_live_params(FROM, a->voice, call.told_numbers, call.told_named);
+    case ASK_STAGE: return worfelli_live_stage(FROM, a->voice, call.word);
+    case ASK_LEVEL: return worfelli_live_level(FROM, a->voice, call.level);
+    case ASK_IS_IDLE: return worfelli_live_is_idle(FROM, a->voice, call.word);
+    case ASK_TAIL: return worfelli_live_tail(FROM, a->voice, call.frames);
+    case ASK_LEAD: return worfelli_live_lead(FROM, a->voice, call.frames);
+    default: broken("this program made no call");
+    }
+}
+
 static uint32_t by_header(void)
 {
     worfelli_bank *to = holders[call.holder].to;
@@ -163,7 +194,7 @@ static uint32_t by_header(void)
 static void make(void *with)
 {
     (void)with;
-    call.refusal = call.holder == HEADER ? by_header() : by_exports();
+    call.refusal = call.holder == HEADER ? by_header() : is_apart(call.holder) ? by_arrays() : by_exports();
 }
 
 /* The other compiler's code takes more stack than the header grants. */
@@ -177,14 +208,18 @@ static void run(unsigned mode, void (*what)(void *), void *with)
 
 size_t voices_of(size_t holder)
 {
-    return holder == HEADER ? worfelli_bank_voices(holders[holder].from)
-                            : functions_of(holder)->voices(holders[holder].from);
+    const struct holder *h = &holders[holder];
+    return holder == HEADER   ? worfelli_bank_voices(h->from)
+           : is_apart(holder) ? worfelli_live_voices(FROM)
+                              : functions_of(holder)->voices(h->from);
 }
 
 size_t stride_of(size_t holder)
 {
-    return holder == HEADER ? worfelli_bank_stride(holders[holder].from)
-                            : functions_of(holder)->stride(holders[holder].from);
+    const struct holder *h = &holders[holder];
+    return holder == HEADER   ? worfelli_bank_stride(h->from)
+           : is_apart(holder) ? worfelli_live_stride(FROM)
+                              : functions_of(holder)->stride(h->from);
 }
 
 /* HEADER's is aligned for a float and no more; the others' end or begin beside what is inaccessible. */

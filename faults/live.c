@@ -234,12 +234,16 @@ static void see_reading(const struct asked *asked, const struct told *told)
         broken("a reading of voice %zu, number %d, is another than before", asked->voice, (int)asked->kind);
 }
 
-/* The holders agree. Compiled otherwise, only in the mode that the library needs. */
+/* The holders agree. By other code, that of arrays apart or compiled otherwise, only in the mode that the library
+ * needs. */
 static void see_holders(const struct asked *asked, const struct told *told)
 {
     for (size_t i = 1; i < HOLDERS; i++) {
-        const char *how = i == GUIDED ? "compiled otherwise" : i == HEADER ? "by the header's functions" : "elsewhere";
-        if (i == GUIDED && now.mode != USUAL)
+        const char *how = i == GUIDED   ? "compiled otherwise"
+                          : is_apart(i) ? "on arrays apart"
+                          : i == HEADER ? "by the header's functions"
+                                        : "elsewhere";
+        if (i > HEADER && now.mode != USUAL)
             continue;
         if (!same_banks(&after[ENDING], &after[i]))
             broken("call %d, %s: another bank", (int)asked->kind, how);
@@ -268,6 +272,14 @@ static void see_kept(const struct asked *asked, uint32_t refusal)
             broken("call %d, refused by %" PRIu32 ", changed the bank", (int)asked->kind, refusal);
 }
 
+/* Whether a call is cut. Of any content other codes can stand for the same voice: a legato note by itself puts
+ * them in order, and a chord leaves them where the note changes nothing. */
+static int is_cut(size_t holder, const struct asked *asked, uint32_t refusal)
+{
+    const int leaves = asked->kind == ASK_CHORD && asked->trigger == WORFELLI_LEGATO && !now.opened;
+    return holder == BEGINNING && refusal == 0 && now.mode == USUAL && !leaves;
+}
+
 static void step(const struct asked *asked)
 {
     const uint32_t refusal = refusal_of(asked, now.voices);
@@ -275,7 +287,7 @@ static void step(const struct asked *asked)
     struct told told[HOLDERS];
     for (size_t i = 0; i < HOLDERS; i++) {
         look_at(i, &before[i]);
-        told[i] = make_call(i, asked, now.mode, i == BEGINNING && refusal == 0 && now.mode == USUAL);
+        told[i] = make_call(i, asked, now.mode, is_cut(i, asked, refusal));
         if (told[i].refusal != refusal)
             broken("call %d is answered %" PRIu32 ", not %" PRIu32, (int)asked->kind, told[i].refusal, refusal);
     }

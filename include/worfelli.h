@@ -38,14 +38,15 @@ extern "C" {
 #endif
 
 /* The version of this header's types and functions. A library of another version may take other parameters
- * or lay a bank out in another way; worfelli_agrees() tells. The functions worfelli_live_... of version 1
- * took a bank's four arrays one by one; a bank lies as it did there. A new function alone makes no new version,
- * since linking fails with a library that lacks it. */
-#define WORFELLI_VERSION 2u
+ * or lay a bank out in another way; worfelli_agrees() tells. There was a version 2, whose functions
+ * worfelli_live_... took a pointer to a bank, as worfelli_struct_... do here. A new function alone makes no
+ * new version, since linking fails with a library that lacks it. */
+#define WORFELLI_VERSION 1u
 
-/* The first version whose banks lie as this one's: a stored bank of any version from it to WORFELLI_VERSION
- * goes on as it would have. */
+/* The first and the last version whose banks lie as this one's: a stored bank of any version from the one to
+ * the other goes on as it would have. */
 #define WORFELLI_BANK_SINCE 1u
+#define WORFELLI_BANK_UNTIL 2u
 
 /* What a call or a list is refused by; 0 is accepted. */
 enum {
@@ -160,26 +161,66 @@ static inline int worfelli_agrees(void)
 /* What the library exports for the calls below: settings are passed as their 11 floats in order and the
  * codes unit, legato_inverted and steal_restart. None of them reads or writes the bank's version. For other
  * languages; in C, use the functions below. */
-uint32_t worfelli_live_open(worfelli_bank *bank, size_t voices, const float *numbers, const uint32_t *named,
-                            double sample_rate, double tempo, double scale);
-uint32_t worfelli_live_set_params(worfelli_bank *bank, size_t voice, const float *numbers,
-                                  const uint32_t *named);
-uint32_t worfelli_live_set_all_params(worfelli_bank *bank, const float *numbers, const uint32_t *named);
-uint32_t worfelli_live_set_timing(worfelli_bank *bank, double sample_rate, double tempo, double scale);
-uint32_t worfelli_live_trigger(worfelli_bank *bank, size_t voice, uint32_t kind);
-uint32_t worfelli_live_chord(worfelli_bank *bank, const size_t *voices, size_t count, uint32_t kind);
-uint32_t worfelli_live_release(worfelli_bank *bank, size_t voice);
-uint32_t worfelli_live_reset(worfelli_bank *bank, size_t voice);
-uint32_t worfelli_live_join(worfelli_bank *bank, size_t voice, size_t from);
-uint32_t worfelli_live_process(worfelli_bank *bank, float *out, size_t levels);
-size_t worfelli_live_voices(const worfelli_bank *bank);
-size_t worfelli_live_stride(const worfelli_bank *bank);
-uint32_t worfelli_live_params(const worfelli_bank *bank, size_t voice, float *numbers, uint32_t *named);
-uint32_t worfelli_live_stage(const worfelli_bank *bank, size_t voice, uint32_t *stage);
-uint32_t worfelli_live_level(const worfelli_bank *bank, size_t voice, float *level);
-uint32_t worfelli_live_is_idle(const worfelli_bank *bank, size_t voice, uint32_t *idle);
-uint32_t worfelli_live_tail(const worfelli_bank *bank, size_t voice, uint64_t *frames);
-uint32_t worfelli_live_lead(const worfelli_bank *bank, size_t voice, uint64_t *frames);
+uint32_t worfelli_struct_open(worfelli_bank *bank, size_t voices, const float *numbers, const uint32_t *named,
+                              double sample_rate, double tempo, double scale);
+uint32_t worfelli_struct_set_params(worfelli_bank *bank, size_t voice, const float *numbers,
+                                    const uint32_t *named);
+uint32_t worfelli_struct_set_all_params(worfelli_bank *bank, const float *numbers, const uint32_t *named);
+uint32_t worfelli_struct_set_timing(worfelli_bank *bank, double sample_rate, double tempo, double scale);
+uint32_t worfelli_struct_trigger(worfelli_bank *bank, size_t voice, uint32_t kind);
+uint32_t worfelli_struct_chord(worfelli_bank *bank, const size_t *voices, size_t count, uint32_t kind);
+uint32_t worfelli_struct_release(worfelli_bank *bank, size_t voice);
+uint32_t worfelli_struct_reset(worfelli_bank *bank, size_t voice);
+uint32_t worfelli_struct_join(worfelli_bank *bank, size_t voice, size_t from);
+uint32_t worfelli_struct_process(worfelli_bank *bank, float *out, size_t levels);
+size_t worfelli_struct_voices(const worfelli_bank *bank);
+size_t worfelli_struct_stride(const worfelli_bank *bank);
+uint32_t worfelli_struct_params(const worfelli_bank *bank, size_t voice, float *numbers, uint32_t *named);
+uint32_t worfelli_struct_stage(const worfelli_bank *bank, size_t voice, uint32_t *stage);
+uint32_t worfelli_struct_level(const worfelli_bank *bank, size_t voice, float *level);
+uint32_t worfelli_struct_is_idle(const worfelli_bank *bank, size_t voice, uint32_t *idle);
+uint32_t worfelli_struct_tail(const worfelli_bank *bank, size_t voice, uint64_t *frames);
+uint32_t worfelli_struct_lead(const worfelli_bank *bank, size_t voice, uint64_t *frames);
+
+/* The same calls on a bank's four arrays one by one: for a host whose arrays lie apart, and for what was
+ * compiled with an earlier header of version 1, whose functions worfelli_bank_... call these. Each copies the
+ * arrays into a bank of its own, 9,084 bytes, and a call that is no reading copies them back; so in C, use
+ * the functions below. */
+uint32_t worfelli_live_open(float *floats, double *bends, uint64_t *counts, uint32_t *codes, size_t voices,
+                            const float *numbers, const uint32_t *named, double sample_rate, double tempo,
+                            double scale);
+uint32_t worfelli_live_set_params(float *floats, double *bends, uint64_t *counts, uint32_t *codes, size_t voice,
+                                  const float *numbers, const uint32_t *named);
+uint32_t worfelli_live_set_all_params(float *floats, double *bends, uint64_t *counts, uint32_t *codes,
+                                      const float *numbers, const uint32_t *named);
+uint32_t worfelli_live_set_timing(float *floats, double *bends, uint64_t *counts, uint32_t *codes,
+                                  double sample_rate, double tempo, double scale);
+uint32_t worfelli_live_trigger(float *floats, double *bends, uint64_t *counts, uint32_t *codes, size_t voice,
+                               uint32_t kind);
+uint32_t worfelli_live_chord(float *floats, double *bends, uint64_t *counts, uint32_t *codes,
+                             const size_t *voices, size_t count, uint32_t kind);
+uint32_t worfelli_live_release(float *floats, double *bends, uint64_t *counts, uint32_t *codes, size_t voice);
+uint32_t worfelli_live_reset(float *floats, double *bends, uint64_t *counts, uint32_t *codes, size_t voice);
+uint32_t worfelli_live_join(float *floats, double *bends, uint64_t *counts, uint32_t *codes, size_t voice,
+                            size_t from);
+uint32_t worfelli_live_process(float *floats, double *bends, uint64_t *counts, uint32_t *codes, float *out,
+                               size_t levels);
+size_t worfelli_live_voices(const float *floats, const double *bends, const uint64_t *counts,
+                            const uint32_t *codes);
+size_t worfelli_live_stride(const float *floats, const double *bends, const uint64_t *counts,
+                            const uint32_t *codes);
+uint32_t worfelli_live_params(const float *floats, const double *bends, const uint64_t *counts,
+                              const uint32_t *codes, size_t voice, float *numbers, uint32_t *named);
+uint32_t worfelli_live_stage(const float *floats, const double *bends, const uint64_t *counts,
+                             const uint32_t *codes, size_t voice, uint32_t *stage);
+uint32_t worfelli_live_level(const float *floats, const double *bends, const uint64_t *counts,
+                             const uint32_t *codes, size_t voice, float *level);
+uint32_t worfelli_live_is_idle(const float *floats, const double *bends, const uint64_t *counts,
+                               const uint32_t *codes, size_t voice, uint32_t *idle);
+uint32_t worfelli_live_tail(const float *floats, const double *bends, const uint64_t *counts,
+                            const uint32_t *codes, size_t voice, uint64_t *frames);
+uint32_t worfelli_live_lead(const float *floats, const double *bends, const uint64_t *counts,
+                            const uint32_t *codes, size_t voice, uint64_t *frames);
 
 /* Every call below answers 0, or the number that it is refused by; a refused one changes nothing behind
  * any pointer, but for worfelli_bank_open, which then leaves a bank of no voices. An unnamed code, 10, is
@@ -199,7 +240,8 @@ static inline uint32_t worfelli_bank_open(worfelli_bank *bank, size_t voices, co
     const float numbers[11] = WORFELLI_NUMBERS(params);
     const uint32_t named[3] = WORFELLI_NAMED(params);
     bank->version = WORFELLI_VERSION;
-    return worfelli_live_open(bank, voices, numbers, named, timing->sample_rate, timing->tempo, timing->scale);
+    return worfelli_struct_open(bank, voices, numbers, named, timing->sample_rate, timing->tempo,
+                                timing->scale);
 }
 
 /* New settings for a voice, from the next frame on. Refused by 10, 2 and 3. */
@@ -207,7 +249,7 @@ static inline uint32_t worfelli_bank_set_params(worfelli_bank *bank, size_t voic
 {
     const float numbers[11] = WORFELLI_NUMBERS(params);
     const uint32_t named[3] = WORFELLI_NAMED(params);
-    return worfelli_live_set_params(bank, voice, numbers, named);
+    return worfelli_struct_set_params(bank, voice, numbers, named);
 }
 
 /* New settings for every voice. Refused by 10 and 3. */
@@ -215,19 +257,19 @@ static inline uint32_t worfelli_bank_set_all_params(worfelli_bank *bank, const w
 {
     const float numbers[11] = WORFELLI_NUMBERS(params);
     const uint32_t named[3] = WORFELLI_NAMED(params);
-    return worfelli_live_set_all_params(bank, numbers, named);
+    return worfelli_struct_set_all_params(bank, numbers, named);
 }
 
 /* Another sample rate, tempo or scale for every voice. Refused by 4. */
 static inline uint32_t worfelli_bank_set_timing(worfelli_bank *bank, const worfelli_timing *timing)
 {
-    return worfelli_live_set_timing(bank, timing->sample_rate, timing->tempo, timing->scale);
+    return worfelli_struct_set_timing(bank, timing->sample_rate, timing->tempo, timing->scale);
 }
 
 /* A note starts on a voice: WORFELLI_NEW, WORFELLI_RETRIGGER or WORFELLI_LEGATO. Refused by 10 and 2. */
 static inline uint32_t worfelli_bank_trigger(worfelli_bank *bank, size_t voice, uint32_t kind)
 {
-    return worfelli_live_trigger(bank, voice, kind);
+    return worfelli_struct_trigger(bank, voice, kind);
 }
 
 /* A note starts on each of `count` voices, all of one kind: as by so many calls of worfelli_bank_trigger in the
@@ -236,25 +278,25 @@ static inline uint32_t worfelli_bank_trigger(worfelli_bank *bank, size_t voice, 
 static inline uint32_t worfelli_bank_chord(worfelli_bank *bank, const size_t *voices, size_t count,
                                            uint32_t kind)
 {
-    return worfelli_live_chord(bank, voices, count, kind);
+    return worfelli_struct_chord(bank, voices, count, kind);
 }
 
 /* The note of a voice ends. Refused by 2, as the two calls below. */
 static inline uint32_t worfelli_bank_release(worfelli_bank *bank, size_t voice)
 {
-    return worfelli_live_release(bank, voice);
+    return worfelli_struct_release(bank, voice);
 }
 
 /* A voice is idle at once, at its end level. */
 static inline uint32_t worfelli_bank_reset(worfelli_bank *bank, size_t voice)
 {
-    return worfelli_live_reset(bank, voice);
+    return worfelli_struct_reset(bank, voice);
 }
 
 /* A voice becomes a copy of `from` as that stands now, settings included. */
 static inline uint32_t worfelli_bank_join(worfelli_bank *bank, size_t voice, size_t from)
 {
-    return worfelli_live_join(bank, voice, from);
+    return worfelli_struct_join(bank, voice, from);
 }
 
 /* Writes the next levels / stride frames of every voice, frame after frame: the voices in their order,
@@ -262,18 +304,18 @@ static inline uint32_t worfelli_bank_join(worfelli_bank *bank, size_t voice, siz
  * level. */
 static inline uint32_t worfelli_bank_process(worfelli_bank *bank, float *out, size_t levels)
 {
-    return worfelli_live_process(bank, out, levels);
+    return worfelli_struct_process(bank, out, levels);
 }
 
 /* How many voices there are, and levels in a frame. */
 static inline size_t worfelli_bank_voices(const worfelli_bank *bank)
 {
-    return worfelli_live_voices(bank);
+    return worfelli_struct_voices(bank);
 }
 
 static inline size_t worfelli_bank_stride(const worfelli_bank *bank)
 {
-    return worfelli_live_stride(bank);
+    return worfelli_struct_stride(bank);
 }
 
 /* A voice's settings. Refused by 2, as the readings below. */
@@ -281,7 +323,7 @@ static inline uint32_t worfelli_bank_params(const worfelli_bank *bank, size_t vo
 {
     float numbers[11] = { 0.0f };
     uint32_t named[3] = { 0 };
-    const uint32_t refusal = worfelli_live_params(bank, voice, numbers, named);
+    const uint32_t refusal = worfelli_struct_params(bank, voice, numbers, named);
     if (refusal == 0) {
         const worfelli_params read = { named[0],   numbers[0], numbers[1], numbers[2], numbers[3],
                                        numbers[4], numbers[5], numbers[6], numbers[7], numbers[8],
@@ -294,32 +336,32 @@ static inline uint32_t worfelli_bank_params(const worfelli_bank *bank, size_t vo
 /* Where a voice is, WORFELLI_IDLE to WORFELLI_RELEASE. */
 static inline uint32_t worfelli_bank_stage(const worfelli_bank *bank, size_t voice, uint32_t *stage)
 {
-    return worfelli_live_stage(bank, voice, stage);
+    return worfelli_struct_stage(bank, voice, stage);
 }
 
 /* The level that a voice hands out next. */
 static inline uint32_t worfelli_bank_level(const worfelli_bank *bank, size_t voice, float *level)
 {
-    return worfelli_live_level(bank, voice, level);
+    return worfelli_struct_level(bank, voice, level);
 }
 
 /* 1 if a voice is idle, else 0. */
 static inline uint32_t worfelli_bank_is_idle(const worfelli_bank *bank, size_t voice, uint32_t *idle)
 {
-    return worfelli_live_is_idle(bank, voice, idle);
+    return worfelli_struct_is_idle(bank, voice, idle);
 }
 
 /* 0 when a voice is idle, else its release's count of frames. */
 static inline uint32_t worfelli_bank_tail(const worfelli_bank *bank, size_t voice, uint64_t *frames)
 {
-    return worfelli_live_tail(bank, voice, frames);
+    return worfelli_struct_tail(bank, voice, frames);
 }
 
 /* The frames until a voice's sustain, were only frames to follow; 0 when it is idle, sustains or
  * releases. */
 static inline uint32_t worfelli_bank_lead(const worfelli_bank *bank, size_t voice, uint64_t *frames)
 {
-    return worfelli_live_lead(bank, voice, frames);
+    return worfelli_struct_lead(bank, voice, frames);
 }
 
 /* ---- whole lists ---- */

@@ -7,7 +7,7 @@ use std::path::Path;
 use std::process::Command;
 
 /// The files, and the header that they include.
-const FILES: [&str; 2] = ["calls", "loops"];
+const FILES: [&str; 3] = ["calls", "apart", "loops"];
 const FOLDER: &str = "live";
 const HEADER: &str = "../include/worfelli.h";
 

@@ -10,14 +10,23 @@ use compare::library::{Export, LISTS, NOTE, NUMBERS};
 /// All source files of a crate.
 fn sources(of: &str) -> Vec<String> {
     let crates = Path::new(env!("CARGO_MANIFEST_DIR")).join("../crates");
-    let folder = crates.join(of).join("src");
-    let Ok(entries) = fs::read_dir(&folder) else {
+    sources_in(&crates.join(of).join("src"))
+}
+
+/// All source files in a folder and in those within it.
+fn sources_in(folder: &Path) -> Vec<String> {
+    let Ok(entries) = fs::read_dir(folder) else {
         panic!("{}: no such folder", folder.display());
     };
-    let files = entries.flatten().map(|entry| entry.path());
-    let files = files.filter(|file| file.extension().is_some_and(|of| of == "rt"));
-    let text = |file| fs::read_to_string(file).expect("a text");
-    files.map(text).collect()
+    let mut texts = Vec::new();
+    for entry in entries.flatten().map(|entry| entry.path()) {
+        if entry.is_dir() {
+            texts.extend(sources_in(&entry));
+        } else if entry.extension().is_some_and(|of| of == "rt") {
+            texts.push(fs::read_to_string(entry).expect("a text"));
+        }
+    }
+    texts
 }
 
 /// A declaration as one line, `name(type, type) -> type`.
@@ -82,12 +91,12 @@ fn lists() {
 fn in_c(of: &str) -> Vec<String> {
     let number = |of| match of {
         "u8" => "uint8_t",
-        "u32" => "uint32_t",
-        "u64" => "uint64_t",
+        "u32" | "Codes" => "uint32_t",
+        "u64" | "Counts" => "uint64_t",
         "i64" => "int64_t",
         "usize" => "size_t",
-        "f32" => "float",
-        "f64" => "double",
+        "f32" | "Floats" => "float",
+        "f64" | "Bends" => "double",
         "Bank" => "worfelli_bank",
         other => panic!("no C type for {other}"),
     };

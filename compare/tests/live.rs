@@ -5,10 +5,11 @@ use compare::banks::calls::{Call, Reading};
 use compare::banks::lists::{Draft, List};
 use compare::live::checked::Checked;
 use compare::live::expected::Expecting;
-use compare::live::functions::{BYTES, LiveBank, agrees};
+use compare::live::functions::{BYTES, Functions, LiveBank, agrees};
 use compare::live::hosts::Host;
 use compare::live::outputs::Output;
 use compare::live::places::{Asked, Part, Place};
+use compare::live::through_apart::ThroughApart;
 use compare::live::through_c::ThroughC;
 use compare::rust::envelope::{EnvelopeParams, Timing, Trigger};
 
@@ -225,6 +226,21 @@ fn each_fault_is_seen_where_it_is() {
     ] {
         let different = differing(fault);
         assert!(different.contains(&subject), "{fault:?}: {different:?}");
+    }
+}
+
+/// Arrays apart hold the numbers of a bank that is asked the same.
+#[test]
+fn arrays_apart() {
+    let (mut c, mut apart) = (ThroughC::new(1).unwrap(), ThroughApart::new(1).unwrap());
+    for step in list().steps {
+        let mut outs = [0, 1].map(|_| vec![2.0_f32; step.call.levels()]);
+        let [of_c, of_apart] = &mut outs;
+        assert_eq!(c.call(&step.call, of_c), step.refusal);
+        assert_eq!(apart.call(&step.call, of_apart), step.refusal);
+        assert_eq!(of_c, of_apart);
+        // All but the version.
+        assert!(apart.state() == c.state()[..BYTES - 4]);
     }
 }
 

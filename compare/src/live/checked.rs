@@ -16,6 +16,8 @@ use crate::report::Tally;
 pub struct Checked<H> {
     pub host: H,
     output: Output,
+    /// How often voices were read, for a host that is read in turn.
+    turn: usize,
     refusal: Tally,
     readings: [Tally; SUBJECTS.len()],
     /// The words of each of those.
@@ -34,6 +36,7 @@ impl<H: Host> Checked<H> {
         Self {
             host,
             output,
+            turn: 0,
             refusal: tally("refusal"),
             readings: SUBJECTS.map(tally),
             words: words::counts(),
@@ -102,11 +105,15 @@ impl<H: Host> Checked<H> {
         }
     }
 
-    /// The readings of the voices from 0 on.
+    /// The readings of the voices from 0 on, or of one of them.
     fn voices(&mut self, place: Place, rust: &[[u8; READING]]) {
+        self.turn += 1;
+        let in_turn = self.turn as u64 % rust.len().max(1) as u64;
         for (voice, rust) in (0..).zip(rust) {
-            let ours = self.host.reading(voice).bytes();
-            self.compare(place, voice, &ours, rust);
+            if H::READS_ALL || voice == in_turn {
+                let ours = self.host.reading(voice).bytes();
+                self.compare(place, voice, &ours, rust);
+            }
         }
     }
 

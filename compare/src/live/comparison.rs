@@ -1,5 +1,5 @@
-//! Lists of calls run through the C functions and through the Rust crate, call
-//! by call beside the Rust's bank.
+//! Lists of calls run through the C functions, on a bank and on arrays apart, and
+//! through the Rust crate, call by call beside the Rust's bank.
 
 use crate::banks::coverage::Coverage;
 use crate::banks::lists::List;
@@ -9,6 +9,7 @@ use crate::live::functions::{VERSION, agrees};
 use crate::live::hosts::Host;
 use crate::live::outputs::Output;
 use crate::live::places::{Asked, Part, Place};
+use crate::live::through_apart::ThroughApart;
 use crate::live::through_c::ThroughC;
 use crate::live::through_rust::ThroughRust;
 use crate::live::unnamed::Unnamed;
@@ -16,9 +17,10 @@ use crate::players::stops;
 use crate::program::Compared;
 use crate::report::Tally;
 
-/// Both hosts, and what was reached.
+/// The hosts, and what was reached.
 pub struct Comparison {
     c: Checked<ThroughC>,
+    apart: Checked<ThroughApart>,
     rust: Checked<ThroughRust>,
     unnamed: Unnamed,
     version: Tally,
@@ -39,6 +41,7 @@ impl Comparison {
         stops::tell();
         Ok(Self {
             c: Checked::new(ThroughC::new(seed)?, Output::new(seed)?),
+            apart: Checked::new(ThroughApart::new(seed)?, Output::new(seed)?),
             rust: Checked::new(ThroughRust::new()?, Output::new(seed)?),
             unnamed: Unnamed::new(seed),
             version: Tally::of(ThroughC::NAME, "version"),
@@ -47,7 +50,7 @@ impl Comparison {
         })
     }
 
-    /// One list, through both.
+    /// One list, through each.
     pub fn list(&mut self, list: &List) {
         stops::at(&list.name, || self.steps(list));
         self.lists += u64::from(!list.is_cut);
@@ -58,6 +61,7 @@ impl Comparison {
         let mut expecting = Expecting::default();
         let mut levels = list.levels.bank.as_slice();
         self.c.host.begin();
+        self.apart.host.begin();
         self.rust.host.begin();
         for (number, step) in list.steps.iter().enumerate() {
             let place = Place {
@@ -68,9 +72,11 @@ impl Comparison {
             };
             let (written, later) = levels.split_at(step.call.levels());
             levels = later;
-            self.unnamed.before(&mut self.c.host, place, step);
+            let (c, apart) = (&mut self.c.host, &mut self.apart.host);
+            self.unnamed.before(c, apart, place, step);
             let expected = expecting.next(step, written);
             self.c.step(place, expected);
+            self.apart.step(place, expected);
             self.rust.step(place, expected);
             let version = self.c.host.bank().version();
             self.version.check(place, version, VERSION);
@@ -93,6 +99,7 @@ impl Compared for Comparison {
 
     fn tallies(self) -> Vec<Tally> {
         let mut tallies = self.c.tallies();
+        tallies.extend(self.apart.tallies());
         tallies.extend(self.unnamed.tallies());
         tallies.push(self.version);
         tallies.extend(self.rust.tallies());

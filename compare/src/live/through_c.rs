@@ -1,13 +1,13 @@
-//! A bank that is called through the C functions. It lies at an unmapped page,
-//! as the list of a chord does, so that no call can read or write past the ends,
-//! and is copied elsewhere now and then: a copy has to go on as the bank would
-//! have.
+//! A bank that is called through the header's functions. It lies at an unmapped
+//! page, as the list of a chord does, so that no call can read or write past the
+//! ends, and is copied elsewhere now and then: a copy has to go on as the bank
+//! would have.
 
 use crate::banks::calls::{Call, MOST_ENTRIES, Reading};
 use crate::calls::{Reply, Settings};
 use crate::live::coded::Coded;
-use crate::live::functions::{BYTES, LiveBank};
-use crate::live::hosts::Host;
+use crate::live::functions::{BYTES, Functions, LiveBank};
+use crate::live::hosts::{Codes, Host};
 use crate::players::memory::{Guarded, Side, sizes};
 use crate::random::Random;
 use crate::reference::ACCEPTED;
@@ -41,7 +41,7 @@ const fn marked(number: u32, level: f32) -> Reply {
 /// The bank, in one of two places, and the list of a chord.
 pub struct ThroughC {
     memories: [Guarded; 2],
-    entries: Guarded,
+    entries: Entries,
     at: usize,
     side: Side,
     random: Random,
@@ -59,7 +59,7 @@ impl ThroughC {
     pub fn new(seed: u64) -> Result<Self, String> {
         Ok(Self {
             memories: [Guarded::new(BYTES)?, Guarded::new(BYTES)?],
-            entries: Guarded::new(size_of::<usize>() * MOST_ENTRIES)?,
+            entries: Entries::new()?,
             at: 0,
             side: Side::End,
             random: Random::named(seed, "copies"),
@@ -69,41 +69,25 @@ impl ThroughC {
     }
 
     pub fn bank(&mut self) -> &mut LiveBank {
-        LiveBank::of(self.memories[self.at].part(self.side, BYTES).0)
+        self.parts().0
     }
 
-    /// Copies the bank to the other place, and leaves nothing of it behind.
+    fn parts(&mut self) -> (&mut LiveBank, &mut Entries) {
+        let (bank, _) = self.memories[self.at].part(self.side, BYTES);
+        (LiveBank::of(bank), &mut self.entries)
+    }
+
+    /// Copies the bank to the other place, and leaves nothing of it behind. The
+    /// list of a chord is on the side on which the bank is.
     fn copy(&mut self) {
         let copy = *self.bank();
         self.memories[self.at].all().fill(0xff);
         self.at = 1 - self.at;
         let start = self.random.coin();
         self.side = if start { Side::Start } else { Side::End };
+        self.entries.side = self.side;
         *self.bank() = copy;
         self.copies += 1;
-    }
-
-    /// A chord, its list on the side on which the bank is.
-    fn chord(&mut self, voices: &[u64], kind: u32) -> u32 {
-        let bytes = size_of::<usize>() * voices.len();
-        let entries = sizes(self.entries.part(self.side, bytes).0);
-        for (entry, voice) in entries.iter_mut().zip(voices) {
-            *entry = *voice as usize;
-        }
-        let bank = LiveBank::of(self.memories[self.at].part(self.side, BYTES).0);
-        bank.chord(entries, kind)
-    }
-
-    /// A call with any codes.
-    pub fn coded(&mut self, coded: &Coded) -> u32 {
-        let bank = self.bank();
-        match coded {
-            Coded::Open(voices, settings, timing) => bank.open(*voices as usize, settings, timing),
-            Coded::Settings(voice, settings) => bank.set_params(*voice as usize, settings),
-            Coded::SettingsForAll(settings) => bank.set_all_params(settings),
-            Coded::Trigger(voice, kind) => bank.trigger(*voice as usize, *kind),
-            Coded::Chord(voices, kind) => self.chord(voices, *kind),
-        }
     }
 }
 
@@ -117,9 +101,7 @@ impl Host for ThroughC {
     fn begin(&mut self) {
         if self.random.coin() {
             self.over_any_bytes += 1;
-            for bytes in self.memories[self.at].all().chunks_exact_mut(8) {
-                bytes.copy_from_slice(&self.random.bits().to_le_bytes());
-            }
+            put_any_bytes(&mut self.random, &mut self.memories[self.at]);
         }
     }
 
@@ -127,38 +109,102 @@ impl Host for ThroughC {
         if self.random.below(COPIED) == 0 {
             self.copy();
         }
-        match *call {
-            Call::Timing(timing) => self.bank().set_timing(&timing),
-            Call::Release(voice) => self.bank().release(voice as usize),
-            Call::Reset(voice) => self.bank().reset(voice as usize),
-            Call::Join(voice, from) => self.bank().join(voice as usize, from as usize),
-            Call::Process(_) => self.bank().process(out),
-            // All but readings.
-            _ => Coded::of(call).map_or(ACCEPTED, |coded| self.coded(&coded)),
-        }
+        let (bank, entries) = self.parts();
+        self::call(bank, entries, call, out)
     }
 
     fn reading(&mut self, voice: u64) -> Reading {
-        let (bank, voice) = (self.bank(), voice as usize);
-        let mut reply = BEFORE;
-        reply.refusal = bank.params(voice, &mut reply.settings);
-        let refusals = [
-            bank.stage(voice, &mut reply.stage),
-            bank.is_idle(voice, &mut reply.idle),
-            bank.level(voice, &mut reply.level),
-            bank.tail(voice, &mut reply.tail),
-            bank.lead(voice, &mut reply.lead),
-        ];
-        Reading {
-            reply: judged(reply, refusals),
-            refusals,
-            voices: bank.voices() as u64,
-            stride: bank.stride() as u64,
-        }
+        reading(self.bank(), voice as usize)
     }
 
     fn state(&mut self) -> Vec<u8> {
         self.bank().bytes().to_vec()
+    }
+}
+
+impl Codes for ThroughC {
+    fn coded(&mut self, coded: &Coded) -> u32 {
+        let (bank, entries) = self.parts();
+        self::coded(bank, entries, coded)
+    }
+}
+
+/// Where the list of a chord lies: at an unmapped page.
+pub struct Entries {
+    memory: Guarded,
+    pub side: Side,
+}
+
+impl Entries {
+    /// Memory for the longest list.
+    ///
+    /// # Errors
+    ///
+    /// There is none. The message is one line.
+    pub fn new() -> Result<Self, String> {
+        Ok(Self {
+            memory: Guarded::new(size_of::<usize>() * MOST_ENTRIES)?,
+            side: Side::End,
+        })
+    }
+
+    fn list(&mut self, voices: &[u64]) -> &[usize] {
+        let bytes = size_of::<usize>() * voices.len();
+        let entries = sizes(self.memory.part(self.side, bytes).0);
+        for (entry, voice) in entries.iter_mut().zip(voices) {
+            *entry = *voice as usize;
+        }
+        entries
+    }
+}
+
+/// Any bytes in all of the memory.
+pub fn put_any_bytes(random: &mut Random, memory: &mut Guarded) {
+    for bytes in memory.all().chunks_exact_mut(8) {
+        bytes.copy_from_slice(&random.bits().to_le_bytes());
+    }
+}
+
+/// A call that is no reading, on a bank that C holds in any way.
+pub fn call(bank: &mut impl Functions, entries: &mut Entries, call: &Call, out: &mut [f32]) -> u32 {
+    match *call {
+        Call::Timing(timing) => bank.set_timing(&timing),
+        Call::Release(voice) => bank.release(voice as usize),
+        Call::Reset(voice) => bank.reset(voice as usize),
+        Call::Join(voice, from) => bank.join(voice as usize, from as usize),
+        Call::Process(_) => bank.process(out),
+        // All but readings.
+        _ => Coded::of(call).map_or(ACCEPTED, |call| coded(bank, entries, &call)),
+    }
+}
+
+/// A call with any codes.
+pub fn coded(bank: &mut impl Functions, entries: &mut Entries, coded: &Coded) -> u32 {
+    match coded {
+        Coded::Open(voices, settings, timing) => bank.open(*voices as usize, settings, timing),
+        Coded::Settings(voice, settings) => bank.set_params(*voice as usize, settings),
+        Coded::SettingsForAll(settings) => bank.set_all_params(settings),
+        Coded::Trigger(voice, kind) => bank.trigger(*voice as usize, *kind),
+        Coded::Chord(voices, kind) => bank.chord(entries.list(voices), *kind),
+    }
+}
+
+/// What every reading of a voice says.
+pub fn reading(bank: &impl Functions, voice: usize) -> Reading {
+    let mut reply = BEFORE;
+    reply.refusal = bank.params(voice, &mut reply.settings);
+    let refusals = [
+        bank.stage(voice, &mut reply.stage),
+        bank.is_idle(voice, &mut reply.idle),
+        bank.level(voice, &mut reply.level),
+        bank.tail(voice, &mut reply.tail),
+        bank.lead(voice, &mut reply.lead),
+    ];
+    Reading {
+        reply: judged(reply, refusals),
+        refusals,
+        voices: bank.voices() as u64,
+        stride: bank.stride() as u64,
     }
 }
 

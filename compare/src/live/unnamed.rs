@@ -7,8 +7,9 @@ use crate::banks::lists::Step;
 use crate::banks::refusals::{VOICE, stride};
 use crate::live::coded::{Coded, UNNAMED};
 use crate::live::coverage::Coverage;
-use crate::live::hosts::Host;
+use crate::live::hosts::{Codes, Host};
 use crate::live::places::{Asked, Place};
+use crate::live::through_apart::ThroughApart;
 use crate::live::through_c::ThroughC;
 use crate::random::Random;
 use crate::reference::ACCEPTED;
@@ -17,33 +18,44 @@ use crate::report::Tally;
 /// The subjects of the comparison, and what it reached.
 pub struct Unnamed {
     random: Random,
+    c: Subjects,
+    apart: Subjects,
+    pub coverage: Coverage,
+}
+
+/// The subjects of one host.
+struct Subjects {
     answer: Tally,
     kept: Tally,
     none: Tally,
-    pub coverage: Coverage,
 }
 
 impl Unnamed {
     #[must_use]
     pub fn new(seed: u64) -> Self {
-        let tally = |name| Tally::of(ThroughC::NAME, name);
         Self {
             random: Random::named(seed, "codes"),
-            answer: tally("unnamed code"),
-            kept: tally("bank kept by an unnamed code"),
-            none: tally("no voices after an unnamed code"),
+            c: Subjects::of(ThroughC::NAME),
+            apart: Subjects::of(ThroughApart::NAME),
             coverage: Coverage::default(),
         }
     }
 
     #[must_use]
     pub fn tallies(self) -> Vec<Tally> {
-        vec![self.answer, self.kept, self.none]
+        let of = |subjects: Subjects| [subjects.answer, subjects.kept, subjects.none];
+        [self.c, self.apart].into_iter().flat_map(of).collect()
     }
 
     /// Before the call of `step`, the same with codes that mean nothing, if it
     /// carries codes.
-    pub fn before(&mut self, host: &mut ThroughC, place: Place, step: &Step) {
+    pub fn before(
+        &mut self,
+        c: &mut ThroughC,
+        apart: &mut ThroughApart,
+        place: Place,
+        step: &Step,
+    ) {
         let Some(named) = Coded::of(&step.call) else {
             return;
         };
@@ -53,8 +65,24 @@ impl Unnamed {
             ..place
         };
         self.coverage.add(&coded, step.refusal);
+        self.c.check(c, place, &coded);
+        self.apart.check(apart, place, &coded);
+    }
+}
+
+impl Subjects {
+    fn of(side: &'static str) -> Self {
+        let tally = |name| Tally::of(side, name);
+        Self {
+            answer: tally("unnamed code"),
+            kept: tally("bank kept by an unnamed code"),
+            none: tally("no voices after an unnamed code"),
+        }
+    }
+
+    fn check(&mut self, host: &mut impl Codes, place: Place, coded: &Coded) {
         let state = host.state();
-        let answer = host.coded(&coded);
+        let answer = host.coded(coded);
         self.answer.check(place, answer, UNNAMED);
         if let Coded::Open(..) = coded {
             self.none.check(place, has_no_voices(host), true);
@@ -65,7 +93,7 @@ impl Unnamed {
 }
 
 /// Whether the bank is one of no voices: by its readings, and by a frame of +0.
-fn has_no_voices(host: &mut ThroughC) -> bool {
+fn has_no_voices(host: &mut impl Host) -> bool {
     let none = Reading::refused(VOICE, 0, stride(0)).bytes();
     let mut frame = [2.0; 16];
     let answer = host.call(&Call::Process(16), &mut frame);

@@ -4,7 +4,7 @@ use Rattle.memory.specs.Memory.{floats_length, bends_length, counts_length, code
 
 -- One number for the functions, their types and how a bank lies in memory.
 abbrev pub version : ℕ
-version = 2
+version = 1
 
 -- The bytes of a bank: numbers of eight bytes, numbers of four, and four for the version that it was opened by.
 abbrev pub bank_size : ℕ

@@ -27,7 +27,7 @@ fn timing_of(sample_rate: f64, tempo: f64, scale: f64) -> Timing
 // A fresh bank. Refused: 10 an unnamed code, then by the bank's numbers; the arrays then hold the bank
 // of no voices, AMP and Timing::new(0.0).
 #[unsafe(no_mangle)]
-pub extern "C" fn worfelli_live_open(
+pub extern "C" fn worfelli_struct_open(
     bank: &mut Bank,
     voices: usize,
     numbers: &[f32; 11],
@@ -51,7 +51,7 @@ pub extern "C" fn worfelli_live_open(
 
 // New settings for a voice. Refused: 10, 2, 3.
 #[unsafe(no_mangle)]
-pub extern "C" fn worfelli_live_set_params(
+pub extern "C" fn worfelli_struct_set_params(
     bank: &mut Bank,
     voice: usize,
     numbers: &[f32; 11],
@@ -70,7 +70,7 @@ pub extern "C" fn worfelli_live_set_params(
 // New settings for every voice. Refused: 10, 3. It makes another call of the bank than the one above, so one
 // generic function would not replace the two.
 #[unsafe(no_mangle)]
-pub extern "C" fn worfelli_live_set_all_params(
+pub extern "C" fn worfelli_struct_set_all_params(
     bank: &mut Bank,
     numbers: &[f32; 11],
     codes: &[u32; 3],
@@ -87,7 +87,7 @@ pub extern "C" fn worfelli_live_set_all_params(
 
 // Another timing for every voice. Refused: 4.
 #[unsafe(no_mangle)]
-pub extern "C" fn worfelli_live_set_timing(
+pub extern "C" fn worfelli_struct_set_timing(
     bank: &mut Bank,
     sample_rate: f64,
     tempo: f64,
@@ -102,7 +102,7 @@ pub extern "C" fn worfelli_live_set_timing(
 
 // A note for a voice, by its kind of trigger: 0 new, 1 retrigger, 2 legato. Refused: 10, 2.
 #[unsafe(no_mangle)]
-pub extern "C" fn worfelli_live_trigger(bank: &mut Bank, voice: usize, kind: u32) -> u32
+pub extern "C" fn worfelli_struct_trigger(bank: &mut Bank, voice: usize, kind: u32) -> u32
     ensures refusal { result ≡ (Live.answer (ltb kind 3) (Banks.bank_of bank.old.arrays) (Call.trigger voice (Format.kind kind))).refusal }
     ensures bank { Banks.bank_of bank.new.arrays ≡ (Live.answer (ltb kind 3) (Banks.bank_of bank.old.arrays) (Call.trigger voice (Format.kind kind))).bank }
     ensures kept { Lent.Kept result bank.old.arrays bank.new.arrays }
@@ -115,7 +115,7 @@ pub extern "C" fn worfelli_live_trigger(bank: &mut Bank, voice: usize, kind: u32
 
 // A note for each of these voices, by its kind of trigger. Refused: 10, 12, 2.
 #[unsafe(no_mangle)]
-pub extern "C" fn worfelli_live_chord(bank: &mut Bank, voices: &[usize], kind: u32) -> u32
+pub extern "C" fn worfelli_struct_chord(bank: &mut Bank, voices: &[usize], kind: u32) -> u32
     ensures refusal { result ≡ (Live.answer (ltb kind 3) (Banks.bank_of bank.old.arrays) (Call.chord voices.now (Format.kind kind))).refusal }
     ensures bank { Banks.bank_of bank.new.arrays ≡ (Live.answer (ltb kind 3) (Banks.bank_of bank.old.arrays) (Call.chord voices.now (Format.kind kind))).bank }
     ensures kept { Lent.Kept result bank.old.arrays bank.new.arrays }
@@ -128,7 +128,7 @@ pub extern "C" fn worfelli_live_chord(bank: &mut Bank, voices: &[usize], kind: u
 
 // The end of a voice's note. Refused, as the two calls below: 2.
 #[unsafe(no_mangle)]
-pub extern "C" fn worfelli_live_release(bank: &mut Bank, voice: usize) -> u32
+pub extern "C" fn worfelli_struct_release(bank: &mut Bank, voice: usize) -> u32
     ensures refusal { result ≡ (Banks.answer (Banks.bank_of bank.old.arrays) (Call.release voice)).refusal }
     ensures bank { Banks.bank_of bank.new.arrays ≡ (Banks.answer (Banks.bank_of bank.old.arrays) (Call.release voice)).bank }
     ensures kept { Lent.Kept result bank.old.arrays bank.new.arrays }
@@ -138,7 +138,7 @@ pub extern "C" fn worfelli_live_release(bank: &mut Bank, voice: usize) -> u32
 
 // Idle for a voice, with no release before it.
 #[unsafe(no_mangle)]
-pub extern "C" fn worfelli_live_reset(bank: &mut Bank, voice: usize) -> u32
+pub extern "C" fn worfelli_struct_reset(bank: &mut Bank, voice: usize) -> u32
     ensures refusal { result ≡ (Banks.answer (Banks.bank_of bank.old.arrays) (Call.reset voice)).refusal }
     ensures bank { Banks.bank_of bank.new.arrays ≡ (Banks.answer (Banks.bank_of bank.old.arrays) (Call.reset voice)).bank }
     ensures kept { Lent.Kept result bank.old.arrays bank.new.arrays }
@@ -148,7 +148,7 @@ pub extern "C" fn worfelli_live_reset(bank: &mut Bank, voice: usize) -> u32
 
 // The first voice becomes a copy of the second.
 #[unsafe(no_mangle)]
-pub extern "C" fn worfelli_live_join(bank: &mut Bank, voice: usize, from: usize) -> u32
+pub extern "C" fn worfelli_struct_join(bank: &mut Bank, voice: usize, from: usize) -> u32
     ensures refusal { result ≡ (Banks.answer (Banks.bank_of bank.old.arrays) (Call.join voice from)).refusal }
     ensures bank { Banks.bank_of bank.new.arrays ≡ (Banks.answer (Banks.bank_of bank.old.arrays) (Call.join voice from)).bank }
     ensures kept { Lent.Kept result bank.old.arrays bank.new.arrays }
@@ -158,7 +158,7 @@ pub extern "C" fn worfelli_live_join(bank: &mut Bank, voice: usize, from: usize)
 
 // The next frames of every voice. Refused: 5 an output that is not whole frames.
 #[unsafe(no_mangle)]
-pub extern "C" fn worfelli_live_process(bank: &mut Bank, out: &mut [f32]) -> u32
+pub extern "C" fn worfelli_struct_process(bank: &mut Bank, out: &mut [f32]) -> u32
     ensures refusal { result ≡ (Banks.answer (Banks.bank_of bank.old.arrays) (Call.process (length out.old))).refusal }
     ensures bank { Banks.bank_of bank.new.arrays ≡ (Banks.answer (Banks.bank_of bank.old.arrays) (Call.process (length out.old))).bank }
     ensures levels { out.new ≡ Banks.written (Banks.bank_of bank.old.arrays) out.old }

@@ -9,7 +9,7 @@ use memory::{BENDS, CODES, COUNTS, FLOATS};
 pub extern "C" fn worfelli_version() -> u32
     ensures { result ≡ Layout.version }
 {
-    2
+    1
 }
 
 // The bytes of a bank in the host's memory.

@@ -2,6 +2,7 @@
 // function hands what it is given to the bank, the check or the player; include/worfelli.h has their C side.
 #![tactic(auto)]
 
+mod apart;
 mod calls;
 mod coded;
 mod layout;

@@ -27,7 +27,7 @@ fn put<T: Copy>(reading: Result<T, Refusal>, place: &mut T) -> u32
 
 // How many voices it has.
 #[unsafe(no_mangle)]
-pub extern "C" fn worfelli_live_voices(bank: &Bank) -> usize
+pub extern "C" fn worfelli_struct_voices(bank: &Bank) -> usize
     ensures { result ≡ Banks.size (Banks.bank_of bank.now.arrays) }
 {
     bank.voices()
@@ -35,7 +35,7 @@ pub extern "C" fn worfelli_live_voices(bank: &Bank) -> usize
 
 // The levels of a frame.
 #[unsafe(no_mangle)]
-pub extern "C" fn worfelli_live_stride(bank: &Bank) -> usize
+pub extern "C" fn worfelli_struct_stride(bank: &Bank) -> usize
     ensures { result ≡ Strides.stride_of (Banks.size (Banks.bank_of bank.now.arrays)) }
 {
     bank.stride()
@@ -43,7 +43,7 @@ pub extern "C" fn worfelli_live_stride(bank: &Bank) -> usize
 
 // A voice's settings. Refused, as all below: 2.
 #[unsafe(no_mangle)]
-pub extern "C" fn worfelli_live_params(
+pub extern "C" fn worfelli_struct_params(
     bank: &Bank,
     voice: usize,
     numbers: &mut [f32; 11],
@@ -64,7 +64,7 @@ pub extern "C" fn worfelli_live_params(
 
 // Where a voice is: 0 Idle, 1 Delay, 2 Attack, 3 Hold, 4 Decay, 5 Sustain, 6 Release.
 #[unsafe(no_mangle)]
-pub extern "C" fn worfelli_live_stage(bank: &Bank, voice: usize, stage: &mut u32) -> u32
+pub extern "C" fn worfelli_struct_stage(bank: &Bank, voice: usize, stage: &mut u32) -> u32
     ensures refusal { result ≡ OutParameters.refusal (Replies.reply (Banks.bank_of bank.now.arrays) (Call.ask (Query.stage voice))) }
     ensures written { stage.new ≡ OutParameters.number (Replies.reply (Banks.bank_of bank.now.arrays) (Call.ask (Query.stage voice))) stage.old }
 {
@@ -73,7 +73,7 @@ pub extern "C" fn worfelli_live_stage(bank: &Bank, voice: usize, stage: &mut u32
 
 // The level that a voice hands out next.
 #[unsafe(no_mangle)]
-pub extern "C" fn worfelli_live_level(bank: &Bank, voice: usize, level: &mut f32) -> u32
+pub extern "C" fn worfelli_struct_level(bank: &Bank, voice: usize, level: &mut f32) -> u32
     ensures refusal { result ≡ OutParameters.refusal (Replies.reply (Banks.bank_of bank.now.arrays) (Call.ask (Query.level voice))) }
     ensures written { level.new ≡ OutParameters.level (Replies.reply (Banks.bank_of bank.now.arrays) (Call.ask (Query.level voice))) level.old }
 {
@@ -82,7 +82,7 @@ pub extern "C" fn worfelli_live_level(bank: &Bank, voice: usize, level: &mut f32
 
 // Whether a voice is idle: 1, else 0.
 #[unsafe(no_mangle)]
-pub extern "C" fn worfelli_live_is_idle(bank: &Bank, voice: usize, idle: &mut u32) -> u32
+pub extern "C" fn worfelli_struct_is_idle(bank: &Bank, voice: usize, idle: &mut u32) -> u32
     ensures refusal { result ≡ OutParameters.refusal (Replies.reply (Banks.bank_of bank.now.arrays) (Call.ask (Query.is_idle voice))) }
     ensures written { idle.new ≡ OutParameters.number (Replies.reply (Banks.bank_of bank.now.arrays) (Call.ask (Query.is_idle voice))) idle.old }
 {
@@ -91,7 +91,7 @@ pub extern "C" fn worfelli_live_is_idle(bank: &Bank, voice: usize, idle: &mut u3
 
 // 0 when a voice is idle, else its release's count of samples.
 #[unsafe(no_mangle)]
-pub extern "C" fn worfelli_live_tail(bank: &Bank, voice: usize, frames: &mut u64) -> u32
+pub extern "C" fn worfelli_struct_tail(bank: &Bank, voice: usize, frames: &mut u64) -> u32
     ensures refusal { result ≡ OutParameters.refusal (Replies.reply (Banks.bank_of bank.now.arrays) (Call.ask (Query.tail voice))) }
     ensures written { frames.new ≡ OutParameters.number (Replies.reply (Banks.bank_of bank.now.arrays) (Call.ask (Query.tail voice))) frames.old }
 {
@@ -100,7 +100,7 @@ pub extern "C" fn worfelli_live_tail(bank: &Bank, voice: usize, frames: &mut u64
 
 // The frames until a voice's Sustain, were only frames to follow; 0 in Idle, Sustain and Release.
 #[unsafe(no_mangle)]
-pub extern "C" fn worfelli_live_lead(bank: &Bank, voice: usize, frames: &mut u64) -> u32
+pub extern "C" fn worfelli_struct_lead(bank: &Bank, voice: usize, frames: &mut u64) -> u32
     ensures refusal { result ≡ OutParameters.refusal (Replies.reply (Banks.bank_of bank.now.arrays) (Call.ask (Query.lead voice))) }
     ensures written { frames.new ≡ OutParameters.number (Replies.reply (Banks.bank_of bank.now.arrays) (Call.ask (Query.lead voice))) frames.old }
 {

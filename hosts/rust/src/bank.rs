@@ -55,7 +55,7 @@ impl EnvelopeBank {
             state: State::new(),
         };
         bank.change(|state| {
-            raw::worfelli_live_open(state, voices, &numbers, &codes, rate, tempo, scale)
+            raw::worfelli_struct_open(state, voices, &numbers, &codes, rate, tempo, scale)
         })?;
         Ok(bank)
     }
@@ -64,14 +64,14 @@ impl EnvelopeBank {
     #[must_use]
     #[inline]
     pub fn voices(&self) -> usize {
-        raw::worfelli_live_voices(&self.state)
+        raw::worfelli_struct_voices(&self.state)
     }
 
     /// Levels in a frame: the voices rounded up to a multiple of 16, and at least 16.
     #[must_use]
     #[inline]
     pub fn stride(&self) -> usize {
-        raw::worfelli_live_stride(&self.state)
+        raw::worfelli_struct_stride(&self.state)
     }
 
     /// A voice's settings.
@@ -81,7 +81,7 @@ impl EnvelopeBank {
     /// [`NoSuchVoice`](Refusal::NoSuchVoice), as every method that names a voice.
     pub fn params(&self, voice: usize) -> Result<EnvelopeParams, Refusal> {
         let (numbers, codes) = self.read(|state, (numbers, codes)| {
-            raw::worfelli_live_params(state, voice, numbers, codes)
+            raw::worfelli_struct_params(state, voice, numbers, codes)
         })?;
         Ok(known(EnvelopeParams::of_parts(numbers, codes)))
     }
@@ -93,7 +93,7 @@ impl EnvelopeBank {
     /// [`NoSuchVoice`](Refusal::NoSuchVoice), and then [`TimeOver`](Refusal::TimeOver).
     pub fn set_params(&mut self, voice: usize, params: EnvelopeParams) -> Result<(), Refusal> {
         let (numbers, codes) = (params.numbers(), params.codes());
-        self.change(|state| raw::worfelli_live_set_params(state, voice, &numbers, &codes))
+        self.change(|state| raw::worfelli_struct_set_params(state, voice, &numbers, &codes))
     }
 
     /// New settings for every voice.
@@ -103,7 +103,7 @@ impl EnvelopeBank {
     /// [`TimeOver`](Refusal::TimeOver).
     pub fn set_all_params(&mut self, params: EnvelopeParams) -> Result<(), Refusal> {
         let (numbers, codes) = (params.numbers(), params.codes());
-        self.change(|state| raw::worfelli_live_set_all_params(state, &numbers, &codes))
+        self.change(|state| raw::worfelli_struct_set_all_params(state, &numbers, &codes))
     }
 
     /// Another sample rate, tempo or scale for every voice.
@@ -117,7 +117,7 @@ impl EnvelopeBank {
             tempo,
             scale,
         } = timing;
-        self.change(|state| raw::worfelli_live_set_timing(state, rate, tempo, scale))
+        self.change(|state| raw::worfelli_struct_set_timing(state, rate, tempo, scale))
     }
 
     /// A note starts on a voice.
@@ -127,7 +127,7 @@ impl EnvelopeBank {
     /// [`NoSuchVoice`](Refusal::NoSuchVoice).
     #[inline]
     pub fn trigger(&mut self, voice: usize, trigger: Trigger) -> Result<(), Refusal> {
-        self.change(|state| raw::worfelli_live_trigger(state, voice, trigger as u32))
+        self.change(|state| raw::worfelli_struct_trigger(state, voice, trigger as u32))
     }
 
     /// A note starts on each of these voices, by one kind of trigger: as by a [`trigger`](Self::trigger) of
@@ -161,7 +161,7 @@ impl EnvelopeBank {
     /// [`NoSuchVoice`](Refusal::NoSuchVoice).
     #[inline]
     pub fn release(&mut self, voice: usize) -> Result<(), Refusal> {
-        self.change(|state| raw::worfelli_live_release(state, voice))
+        self.change(|state| raw::worfelli_struct_release(state, voice))
     }
 
     /// A voice is idle at once, at its end level.
@@ -171,7 +171,7 @@ impl EnvelopeBank {
     /// [`NoSuchVoice`](Refusal::NoSuchVoice).
     #[inline]
     pub fn reset(&mut self, voice: usize) -> Result<(), Refusal> {
-        self.change(|state| raw::worfelli_live_reset(state, voice))
+        self.change(|state| raw::worfelli_struct_reset(state, voice))
     }
 
     /// A voice becomes a copy of `from` as that stands now, settings included.
@@ -181,7 +181,7 @@ impl EnvelopeBank {
     /// [`NoSuchVoice`](Refusal::NoSuchVoice), of either voice.
     #[inline]
     pub fn join(&mut self, voice: usize, from: usize) -> Result<(), Refusal> {
-        self.change(|state| raw::worfelli_live_join(state, voice, from))
+        self.change(|state| raw::worfelli_struct_join(state, voice, from))
     }
 
     /// Where a voice is.
@@ -191,7 +191,7 @@ impl EnvelopeBank {
     /// [`NoSuchVoice`](Refusal::NoSuchVoice).
     #[inline]
     pub fn stage(&self, voice: usize) -> Result<Stage, Refusal> {
-        self.read(|state, code| raw::worfelli_live_stage(state, voice, code))
+        self.read(|state, code| raw::worfelli_struct_stage(state, voice, code))
             .map(|code| known(Stage::coded(code)))
     }
 
@@ -202,7 +202,7 @@ impl EnvelopeBank {
     /// [`NoSuchVoice`](Refusal::NoSuchVoice).
     #[inline]
     pub fn level(&self, voice: usize) -> Result<f32, Refusal> {
-        self.compute(|state, level| raw::worfelli_live_level(state, voice, level))
+        self.compute(|state, level| raw::worfelli_struct_level(state, voice, level))
     }
 
     /// Whether a voice is idle.
@@ -212,7 +212,7 @@ impl EnvelopeBank {
     /// [`NoSuchVoice`](Refusal::NoSuchVoice).
     #[inline]
     pub fn is_idle(&self, voice: usize) -> Result<bool, Refusal> {
-        self.read(|state, idle| raw::worfelli_live_is_idle(state, voice, idle))
+        self.read(|state, idle| raw::worfelli_struct_is_idle(state, voice, idle))
             .map(|idle| idle != 0)
     }
 
@@ -223,7 +223,7 @@ impl EnvelopeBank {
     /// [`NoSuchVoice`](Refusal::NoSuchVoice).
     #[inline]
     pub fn tail(&self, voice: usize) -> Result<u64, Refusal> {
-        self.compute(|state, frames| raw::worfelli_live_tail(state, voice, frames))
+        self.compute(|state, frames| raw::worfelli_struct_tail(state, voice, frames))
     }
 
     /// The frames until a voice's sustain, were only frames to follow; 0 when it is idle, sustains or
@@ -234,7 +234,7 @@ impl EnvelopeBank {
     /// [`NoSuchVoice`](Refusal::NoSuchVoice).
     #[inline]
     pub fn lead(&self, voice: usize) -> Result<u64, Refusal> {
-        self.compute(|state, frames| raw::worfelli_live_lead(state, voice, frames))
+        self.compute(|state, frames| raw::worfelli_struct_lead(state, voice, frames))
     }
 
     /// Fills `out` with the next frames: `out[k * stride + v]` is voice v's level in frame k, and spare
@@ -279,7 +279,7 @@ impl EnvelopeBank {
     /// As [`new`](Self::new).
     pub fn from_bytes(bytes: &[u8; Self::SIZE]) -> Result<Self, OtherVersion> {
         let state = State::from_bytes(bytes);
-        if (raw::BANK_SINCE..=raw::VERSION).contains(&state.version) {
+        if (raw::BANK_SINCE..=raw::BANK_UNTIL).contains(&state.version) {
             Ok(Self { state })
         } else {
             Err(OtherVersion {

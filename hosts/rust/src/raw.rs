@@ -4,10 +4,11 @@
 use std::arch::asm;
 
 /// The version of include/worfelli.h that this file follows.
-pub(crate) const VERSION: u32 = 2;
+pub(crate) const VERSION: u32 = 1;
 
-/// The first version whose banks lie as this one's.
+/// The first and the last version whose banks lie as this one's.
 pub(crate) const BANK_SINCE: u32 = 1;
+pub(crate) const BANK_UNTIL: u32 = 2;
 
 const BENDS: usize = 131;
 const COUNTS: usize = 192;
@@ -39,7 +40,7 @@ unsafe extern "C" {
     safe fn worfelli_version() -> u32;
     safe fn worfelli_bank_size() -> usize;
 
-    pub(crate) safe fn worfelli_live_open(
+    pub(crate) safe fn worfelli_struct_open(
         bank: &mut State,
         voices: usize,
         numbers: &[f32; 11],
@@ -48,43 +49,48 @@ unsafe extern "C" {
         tempo: f64,
         scale: f64,
     ) -> u32;
-    pub(crate) safe fn worfelli_live_set_params(
+    pub(crate) safe fn worfelli_struct_set_params(
         bank: &mut State,
         voice: usize,
         numbers: &[f32; 11],
         named: &[u32; 3],
     ) -> u32;
-    pub(crate) safe fn worfelli_live_set_all_params(
+    pub(crate) safe fn worfelli_struct_set_all_params(
         bank: &mut State,
         numbers: &[f32; 11],
         named: &[u32; 3],
     ) -> u32;
-    pub(crate) safe fn worfelli_live_set_timing(
+    pub(crate) safe fn worfelli_struct_set_timing(
         bank: &mut State,
         sample_rate: f64,
         tempo: f64,
         scale: f64,
     ) -> u32;
-    pub(crate) safe fn worfelli_live_trigger(bank: &mut State, voice: usize, kind: u32) -> u32;
-    fn worfelli_live_chord(bank: &mut State, voices: *const usize, count: usize, kind: u32) -> u32;
-    pub(crate) safe fn worfelli_live_release(bank: &mut State, voice: usize) -> u32;
-    pub(crate) safe fn worfelli_live_reset(bank: &mut State, voice: usize) -> u32;
-    pub(crate) safe fn worfelli_live_join(bank: &mut State, voice: usize, from: usize) -> u32;
-    fn worfelli_live_process(bank: &mut State, out: *mut f32, levels: usize) -> u32;
+    pub(crate) safe fn worfelli_struct_trigger(bank: &mut State, voice: usize, kind: u32) -> u32;
+    fn worfelli_struct_chord(
+        bank: &mut State,
+        voices: *const usize,
+        count: usize,
+        kind: u32,
+    ) -> u32;
+    pub(crate) safe fn worfelli_struct_release(bank: &mut State, voice: usize) -> u32;
+    pub(crate) safe fn worfelli_struct_reset(bank: &mut State, voice: usize) -> u32;
+    pub(crate) safe fn worfelli_struct_join(bank: &mut State, voice: usize, from: usize) -> u32;
+    fn worfelli_struct_process(bank: &mut State, out: *mut f32, levels: usize) -> u32;
 
-    pub(crate) safe fn worfelli_live_voices(bank: &State) -> usize;
-    pub(crate) safe fn worfelli_live_stride(bank: &State) -> usize;
-    pub(crate) safe fn worfelli_live_params(
+    pub(crate) safe fn worfelli_struct_voices(bank: &State) -> usize;
+    pub(crate) safe fn worfelli_struct_stride(bank: &State) -> usize;
+    pub(crate) safe fn worfelli_struct_params(
         bank: &State,
         voice: usize,
         numbers: &mut [f32; 11],
         named: &mut [u32; 3],
     ) -> u32;
-    pub(crate) safe fn worfelli_live_stage(bank: &State, voice: usize, stage: &mut u32) -> u32;
-    pub(crate) safe fn worfelli_live_level(bank: &State, voice: usize, level: &mut f32) -> u32;
-    pub(crate) safe fn worfelli_live_is_idle(bank: &State, voice: usize, idle: &mut u32) -> u32;
-    pub(crate) safe fn worfelli_live_tail(bank: &State, voice: usize, frames: &mut u64) -> u32;
-    pub(crate) safe fn worfelli_live_lead(bank: &State, voice: usize, frames: &mut u64) -> u32;
+    pub(crate) safe fn worfelli_struct_stage(bank: &State, voice: usize, stage: &mut u32) -> u32;
+    pub(crate) safe fn worfelli_struct_level(bank: &State, voice: usize, level: &mut f32) -> u32;
+    pub(crate) safe fn worfelli_struct_is_idle(bank: &State, voice: usize, idle: &mut u32) -> u32;
+    pub(crate) safe fn worfelli_struct_tail(bank: &State, voice: usize, frames: &mut u64) -> u32;
+    pub(crate) safe fn worfelli_struct_lead(bank: &State, voice: usize, frames: &mut u64) -> u32;
 
     fn worfelli_list_info(
         list: *const u8,
@@ -146,7 +152,7 @@ pub(crate) fn chord(state: &mut State, voices: &[usize], kind: u32) -> u32 {
     in_default_mode(|| {
         // SAFETY: pointer and count are those of a slice, so the pointer is aligned and not null, an empty
         // one's too. The voices are only read, and the state is lent mutably, so that they do not overlap.
-        unsafe { worfelli_live_chord(state, voices.as_ptr(), voices.len(), kind) }
+        unsafe { worfelli_struct_chord(state, voices.as_ptr(), voices.len(), kind) }
     })
 }
 
@@ -156,7 +162,7 @@ pub(crate) fn process(state: &mut State, out: &mut [f32]) -> u32 {
     in_default_mode(|| {
         // SAFETY: pointer and length are those of a slice that may be written. It is lent mutably, as the
         // state is, so that they do not overlap.
-        unsafe { worfelli_live_process(state, out.as_mut_ptr(), out.len()) }
+        unsafe { worfelli_struct_process(state, out.as_mut_ptr(), out.len()) }
     })
 }
 
@@ -245,13 +251,13 @@ mod tests {
     }
 
     #[test]
-    #[should_panic(expected = "libworfelli.a is of version 3 with banks of 9088 bytes")]
+    #[should_panic(expected = "libworfelli.a is of version 2 with banks of 9088 bytes")]
     fn another_version() {
         assert_agreement(VERSION + 1, SIZE);
     }
 
     #[test]
-    #[should_panic(expected = "libworfelli.a is of version 2 with banks of 9096 bytes")]
+    #[should_panic(expected = "libworfelli.a is of version 1 with banks of 9096 bytes")]
     fn another_size() {
         assert_agreement(VERSION, SIZE + 8);
     }
@@ -264,31 +270,31 @@ mod tests {
             let version = state.version;
             let kept = |state: &State| assert_eq!(state.version, version);
             for voices in [65, 64, 3] {
-                worfelli_live_open(&mut state, voices, &[0.5; 11], &[0; 3], 48000.0, 120.0, 1.0);
+                worfelli_struct_open(&mut state, voices, &[0.5; 11], &[0; 3], 48000.0, 120.0, 1.0);
                 kept(&state);
             }
-            worfelli_live_open(&mut state, 3, &[0.5; 11], &[2; 3], 48000.0, 120.0, 1.0);
+            worfelli_struct_open(&mut state, 3, &[0.5; 11], &[2; 3], 48000.0, 120.0, 1.0);
             kept(&state);
             state = State::from_bytes(&[byte; SIZE]);
             for voice in [0, 1, 63, 64] {
-                worfelli_live_set_params(&mut state, voice, &[0.25; 11], &[1; 3]);
+                worfelli_struct_set_params(&mut state, voice, &[0.25; 11], &[1; 3]);
                 kept(&state);
-                worfelli_live_trigger(&mut state, voice, 0);
+                worfelli_struct_trigger(&mut state, voice, 0);
                 kept(&state);
                 chord(&mut state, &[voice, 2], 1);
                 kept(&state);
                 process(&mut state, &mut [0.0; 192]);
                 kept(&state);
-                worfelli_live_release(&mut state, voice);
+                worfelli_struct_release(&mut state, voice);
                 kept(&state);
-                worfelli_live_join(&mut state, voice, 0);
+                worfelli_struct_join(&mut state, voice, 0);
                 kept(&state);
-                worfelli_live_reset(&mut state, voice);
+                worfelli_struct_reset(&mut state, voice);
                 kept(&state);
             }
-            worfelli_live_set_all_params(&mut state, &[0.75; 11], &[1; 3]);
+            worfelli_struct_set_all_params(&mut state, &[0.75; 11], &[1; 3]);
             kept(&state);
-            worfelli_live_set_timing(&mut state, 44100.0, 60.0, 2.0);
+            worfelli_struct_set_timing(&mut state, 44100.0, 60.0, 2.0);
             kept(&state);
         }
     }

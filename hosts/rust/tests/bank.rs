@@ -414,13 +414,29 @@ fn a_copy_goes_on_as_the_bank_does() {
 fn bytes_of_another_version() {
     assert_eq!(EnvelopeBank::SIZE, 9088);
     let mut bytes = *sounding().as_bytes();
-    assert_eq!(bytes[9084..], 2_u32.to_le_bytes());
+    assert_eq!(bytes[9084..], 1_u32.to_le_bytes());
     bytes[9084] = 7;
     let error = EnvelopeBank::from_bytes(&bytes).unwrap_err();
     assert_eq!(error, OtherVersion { version: 7 });
-    assert_eq!(error.to_string(), "a bank of version 7, not of version 2");
+    assert_eq!(error.to_string(), "a bank of version 7, not of version 1");
     let error = EnvelopeBank::from_bytes(&[0; EnvelopeBank::SIZE]).unwrap_err();
     assert_eq!(error, OtherVersion { version: 0 });
+}
+
+/// Banks of versions 1 and 2 lie alike.
+#[test]
+fn bytes_of_a_version_that_lies_alike() {
+    let mut bytes = *sounding().as_bytes();
+    let levels = drawn(&mut sounding(), 40);
+    for version in [1, 2] {
+        bytes[9084] = version;
+        let mut bank = EnvelopeBank::from_bytes(&bytes).unwrap();
+        assert!(*bank.as_bytes() == bytes);
+        assert!(drawn(&mut bank, 40) == levels);
+    }
+    bytes[9084] = 3;
+    let error = EnvelopeBank::from_bytes(&bytes).unwrap_err();
+    assert_eq!(error, OtherVersion { version: 3 });
 }
 
 #[test]

@@ -1,10 +1,10 @@
--- `worfelli_live_open`: with codes that each name something, the bank's own `open` of the settings that they stand for; else 10, and the bank of no
+-- `worfelli_struct_open`: with codes that each name something, the bank's own `open` of the settings that they stand for; else 10, and the bank of no
 -- voices that a refused opening leaves.
 use mathlib.Core.Path.{ap, ◌∙◌}
 use lib.Ieee.{of_bits}
 use Rattle.settings.specs.Refusals.{number}
 use Rattle.worfelli.specs.Live.{opening_refusal}
-use Rattle.worfelli.proofs.calls.worfelli_live_open.Goals as goal
+use Rattle.worfelli.proofs.calls.worfelli_struct_open.Goals as goal
 
 pub returns-in-Ok : goal.returns-in-Ok
 unfolding opening_refusal

@@ -1,9 +1,9 @@
--- `worfelli_live_set_params`: with every code named, what the bank's own `set_params` ensures of the settings; else 10, and the bank is not called.
+-- `worfelli_struct_set_params`: with every code named, what the bank's own `set_params` ensures of the settings; else 10, and the bank is not called.
 -- These are the two cases of `answer`.
 use mathlib.Core.Path.{refl, ap, ◌∙◌}
 use Rattle.settings.specs.Refusals.{number}
 use Rattle.worfelli.specs.Live.{answer}
-use Rattle.worfelli.proofs.calls.worfelli_live_set_params.Goals as goal
+use Rattle.worfelli.proofs.calls.worfelli_struct_set_params.Goals as goal
 
 pub returns-in-Ok-clause-refusal : goal.returns-in-Ok-clause-refusal
 unfolding answer

@@ -1,4 +1,4 @@
--- `worfelli_live_is_idle`: its number is that of the reply to the bank's own reading; an accepted one stores the value as a code, and a refused one
+-- `worfelli_struct_is_idle`: its number is that of the reply to the bank's own reading; an accepted one stores the value as a code, and a refused one
 -- leaves what was there (`behind`).
 use mathlib.Core.Path.{◌≡◌, refl}
 use mathlib.Core.Bool.{Bool, true, false}
@@ -8,7 +8,7 @@ use Rattle.memory.specs.Memory.{flag_code}
 use Rattle.bank.specs.Replies.{Reply}
 use Rattle.worfelli.specs.OutParameters.{refusal, number}
 use Rattle.worfelli.proofs.Behind.{mapped, behind}
-use Rattle.worfelli.proofs.readings.worfelli_live_is_idle.Goals as goal
+use Rattle.worfelli.proofs.readings.worfelli_struct_is_idle.Goals as goal
 
 flag : (x : Bool) (y : ℕ) → y ≡ bool_byte x → y ≡ flag_code x
 flag true y h = h

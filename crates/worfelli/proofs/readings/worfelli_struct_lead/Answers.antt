@@ -1,10 +1,10 @@
--- `worfelli_live_lead`: its number is that of the reply to the bank's own reading; an accepted one stores the value, and a refused one leaves what
+-- `worfelli_struct_lead`: its number is that of the reply to the bank's own reading; an accepted one stores the value, and a refused one leaves what
 -- was there (`behind`).
 use mathlib.Core.Path.{refl}
 use Rattle.bank.specs.Replies.{Reply}
 use Rattle.worfelli.specs.OutParameters.{refusal, number}
 use Rattle.worfelli.proofs.Behind.{same, behind}
-use Rattle.worfelli.proofs.readings.worfelli_live_lead.Goals as goal
+use Rattle.worfelli.proofs.readings.worfelli_struct_lead.Goals as goal
 
 pub returns : goal.returns
 unfolding refusal number

@@ -1,9 +1,9 @@
--- `worfelli_live_params`: by the reply to the bank's own reading. An accepted one puts the settings into the two arrays, and a refused one leaves
+-- `worfelli_struct_params`: by the reply to the bank's own reading. An accepted one puts the settings into the two arrays, and a refused one leaves
 -- both as they were.
 use mathlib.Core.Path.{sym, ap, ◌∙◌}
 use Rattle.bank.specs.Replies.{Reply, of_reading}
 use Rattle.worfelli.specs.OutParameters.{refusal, numbers, codes}
-use Rattle.worfelli.proofs.readings.worfelli_live_params.Goals as goal
+use Rattle.worfelli.proofs.readings.worfelli_struct_params.Goals as goal
 
 pub returns-in-Ok : goal.returns-in-Ok
 unfolding of_reading refusal numbers codes

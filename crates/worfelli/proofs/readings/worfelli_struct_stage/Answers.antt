@@ -1,4 +1,4 @@
--- `worfelli_live_stage`: its number is that of the reply to the bank's own reading; an accepted one stores the value as a code, and a refused one
+-- `worfelli_struct_stage`: its number is that of the reply to the bank's own reading; an accepted one stores the value as a code, and a refused one
 -- leaves what was there (`behind`).
 use mathlib.Core.Path.{refl}
 use Rattle.std.proofs.Common.{of_calls}
@@ -6,7 +6,7 @@ use Rattle.memory.specs.Memory.{stage_code}
 use Rattle.bank.specs.Replies.{Reply}
 use Rattle.worfelli.specs.OutParameters.{refusal, number}
 use Rattle.worfelli.proofs.Behind.{mapped, behind}
-use Rattle.worfelli.proofs.readings.worfelli_live_stage.Goals as goal
+use Rattle.worfelli.proofs.readings.worfelli_struct_stage.Goals as goal
 
 pub returns : goal.returns
 unfolding refusal number
