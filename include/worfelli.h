@@ -184,8 +184,8 @@ uint32_t worfelli_struct_lead(const worfelli_bank *bank, size_t voice, uint64_t 
 
 /* The same calls on a bank's four arrays one by one: for a host whose arrays lie apart, and for what was
  * compiled with an earlier header of version 1, whose functions worfelli_bank_... call these. Each copies the
- * arrays into a bank of its own, 9,084 bytes, and a call that is no reading copies them back; so in C, use
- * the functions below. */
+ * arrays into a bank of its own, 9,084 bytes, and a call that is accepted, and is no reading, copies them back;
+ * so in C, use the functions below. */
 uint32_t worfelli_live_open(float *floats, double *bends, uint64_t *counts, uint32_t *codes, size_t voices,
                             const float *numbers, const uint32_t *named, double sample_rate, double tempo,
                             double scale);

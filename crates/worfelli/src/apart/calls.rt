@@ -1,4 +1,5 @@
-// The calls, in the order of crate::calls.
+// The calls, in the order of crate::calls. A refused one writes nothing, but for `open`, which then makes the bank of
+// no voices.
 ghost use Rattle.std.specs.Prelude.{◌≡◌, ltb, length};
 ghost use Rattle.bank.specs.Banks as Banks;
 ghost use Rattle.bank.specs.Calls as Calls;
@@ -66,7 +67,9 @@ pub extern "C" fn worfelli_live_set_params(
     let mut bank = Bank::EMPTY;
     gather(&mut bank, f, k, n, c);
     let answer = calls::worfelli_struct_set_params(&mut bank, voice, numbers, codes);
-    put_back(&bank, f, k, n, c);
+    if answer == 0 {
+        put_back(&bank, f, k, n, c);
+    }
     answer
 }
 
@@ -87,7 +90,9 @@ pub extern "C" fn worfelli_live_set_all_params(
     let mut bank = Bank::EMPTY;
     gather(&mut bank, f, k, n, c);
     let answer = calls::worfelli_struct_set_all_params(&mut bank, numbers, codes);
-    put_back(&bank, f, k, n, c);
+    if answer == 0 {
+        put_back(&bank, f, k, n, c);
+    }
     answer
 }
 
@@ -109,7 +114,9 @@ pub extern "C" fn worfelli_live_set_timing(
     let mut bank = Bank::EMPTY;
     gather(&mut bank, f, k, n, c);
     let answer = calls::worfelli_struct_set_timing(&mut bank, sample_rate, tempo, scale);
-    put_back(&bank, f, k, n, c);
+    if answer == 0 {
+        put_back(&bank, f, k, n, c);
+    }
     answer
 }
 
@@ -130,7 +137,9 @@ pub extern "C" fn worfelli_live_trigger(
     let mut bank = Bank::EMPTY;
     gather(&mut bank, f, k, n, c);
     let answer = calls::worfelli_struct_trigger(&mut bank, voice, kind);
-    put_back(&bank, f, k, n, c);
+    if answer == 0 {
+        put_back(&bank, f, k, n, c);
+    }
     answer
 }
 
@@ -151,7 +160,9 @@ pub extern "C" fn worfelli_live_chord(
     let mut bank = Bank::EMPTY;
     gather(&mut bank, f, k, n, c);
     let answer = calls::worfelli_struct_chord(&mut bank, voices, kind);
-    put_back(&bank, f, k, n, c);
+    if answer == 0 {
+        put_back(&bank, f, k, n, c);
+    }
     answer
 }
 
@@ -171,7 +182,9 @@ pub extern "C" fn worfelli_live_release(
     let mut bank = Bank::EMPTY;
     gather(&mut bank, f, k, n, c);
     let answer = calls::worfelli_struct_release(&mut bank, voice);
-    put_back(&bank, f, k, n, c);
+    if answer == 0 {
+        put_back(&bank, f, k, n, c);
+    }
     answer
 }
 
@@ -191,7 +204,9 @@ pub extern "C" fn worfelli_live_reset(
     let mut bank = Bank::EMPTY;
     gather(&mut bank, f, k, n, c);
     let answer = calls::worfelli_struct_reset(&mut bank, voice);
-    put_back(&bank, f, k, n, c);
+    if answer == 0 {
+        put_back(&bank, f, k, n, c);
+    }
     answer
 }
 
@@ -212,7 +227,9 @@ pub extern "C" fn worfelli_live_join(
     let mut bank = Bank::EMPTY;
     gather(&mut bank, f, k, n, c);
     let answer = calls::worfelli_struct_join(&mut bank, voice, from);
-    put_back(&bank, f, k, n, c);
+    if answer == 0 {
+        put_back(&bank, f, k, n, c);
+    }
     answer
 }
 
@@ -233,6 +250,8 @@ pub extern "C" fn worfelli_live_process(
     let mut bank = Bank::EMPTY;
     gather(&mut bank, f, k, n, c);
     let answer = calls::worfelli_struct_process(&mut bank, out);
-    put_back(&bank, f, k, n, c);
+    if answer == 0 {
+        put_back(&bank, f, k, n, c);
+    }
     answer
 }
