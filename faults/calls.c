@@ -122,7 +122,9 @@ static uint32_t by_exports(void)
     case ASK_RELEASE: return by->release(h->to, a->voice);
     case ASK_RESET: return by->reset(h->to, a->voice);
     case ASK_JOIN: return by->join(h->to, a->voice, a->from);
-    case ASK_CHORD: return by->chord(h->to, call.chord, call.entries, a->trigger);
+    case ASK_CHORD: /* by its other name on the copy */
+        return (call.holder == BEGINNING ? worfelli_live_chord : by->chord)(h->to, call.chord, call.entries,
+                                                                            a->trigger);
     case ASK_PROCESS: return by->process(h->to, call.out, call.levels);
     case ASK_PARAMS: return by->params(h->from, a->voice, call.told_numbers, call.told_named);
     case ASK_STAGE: return by->stage(h->from, a->voice, call.word);
@@ -153,7 +155,7 @@ static uint32_t by_arrays(void)
     case ASK_RELEASE: return worfelli_live_release(TO, a->voice);
     case ASK_RESET: return worfelli_live_reset(TO, a->voice);
     case ASK_JOIN: return worfelli_live_join(TO, a->voice, a->from);
-    case ASK_CHORD: return worfelli_live_chord(TO, call.chord, call.entries, a->trigger);
+    case ASK_CHORD: return worfelli_apart_chord(TO, call.chord, call.entries, a->trigger);
     case ASK_PROCESS: return worfelli_live_process(TO, call.out, call.levels);
     case ASK_PARAMS: return worfelli_live_params(FROM, a->voice, call.told_numbers, call.told_named);
     case ASK_STAGE: return worfelli_live_stage(FROM, a->voice, call.word);

@@ -1,4 +1,4 @@
-/* Live banks with one fault each, to see that the fuzz target notices it. WRONG, 1 to 51, chooses the fault;
+/* Live banks with one fault each, to see that the fuzz target notices it. WRONG, 1 to 52, chooses the fault;
  * the linker puts these in place of the library's functions (--wrap). */
 #include <math.h>
 #include <string.h>
@@ -25,6 +25,7 @@ REAL(level);
 REAL(is_idle);
 REAL(tail);
 REAL(lead);
+__typeof__(worfelli_apart_chord) __wrap_worfelli_apart_chord;
 
 uint32_t __wrap_worfelli_struct_open(worfelli_bank *bank, size_t voices, const float *numbers, const uint32_t *named,
                                      double rate, double tempo, double scale)
@@ -128,6 +129,12 @@ uint32_t __wrap_worfelli_struct_chord(worfelli_bank *bank, const size_t *voices,
     if (WRONG == 47 && any) /* writes to the list */
         *(volatile size_t *)(uintptr_t)voices = voices[0];
     return refusal;
+}
+
+uint32_t __wrap_worfelli_live_chord(worfelli_bank *bank, const size_t *voices, size_t count, uint32_t kind)
+{
+    /* 52: by this name leaves the last voice out. */
+    return __wrap_worfelli_struct_chord(bank, voices, WRONG == 52 && count > 1 ? count - 1 : count, kind);
 }
 
 uint32_t __wrap_worfelli_struct_release(worfelli_bank *bank, size_t voice)
@@ -314,8 +321,8 @@ static void take_apart(TO)
         ((volatile uint64_t *)n)[-1] = 0;
 }
 
-#define CALL(name, given, arguments) \
-    uint32_t __wrap_worfelli_live_##name given \
+#define CALL(by, name, given, arguments) \
+    uint32_t __wrap_worfelli_##by##_##name given \
     { \
         uint32_t refusal; \
         put_together(f, k, n, c); \
@@ -331,15 +338,17 @@ static void take_apart(TO)
             *(volatile uint32_t *)(uintptr_t)c = c[0]; \
         return __wrap_worfelli_struct_##name arguments; \
     }
-CALL(open, (TO, size_t voices, const float *numbers, const uint32_t *named, double rate, double tempo, double scale),
+CALL(live, open,
+     (TO, size_t voices, const float *numbers, const uint32_t *named, double rate, double tempo, double scale),
      (together, voices, numbers, named, rate, tempo, scale))
-CALL(set_params, (TO, size_t voice, const float *numbers, const uint32_t *named), (together, voice, numbers, named))
-CALL(trigger, (TO, size_t voice, uint32_t kind), (together, voice, kind))
-CALL(chord, (TO, const size_t *voices, size_t count, uint32_t kind), (together, voices, count, kind))
-CALL(release, (TO, size_t voice), (together, voice))
-CALL(reset, (TO, size_t voice), (together, voice))
-CALL(join, (TO, size_t voice, size_t from), (together, voice, from))
-CALL(process, (TO, float *out, size_t levels), (together, out, levels))
+CALL(live, set_params, (TO, size_t voice, const float *numbers, const uint32_t *named),
+     (together, voice, numbers, named))
+CALL(live, trigger, (TO, size_t voice, uint32_t kind), (together, voice, kind))
+CALL(apart, chord, (TO, const size_t *voices, size_t count, uint32_t kind), (together, voices, count, kind))
+CALL(live, release, (TO, size_t voice), (together, voice))
+CALL(live, reset, (TO, size_t voice), (together, voice))
+CALL(live, join, (TO, size_t voice, size_t from), (together, voice, from))
+CALL(live, process, (TO, float *out, size_t levels), (together, out, levels))
 READING(size_t, voices, (FROM), (together))
 READING(size_t, stride, (FROM), (together))
 READING(uint32_t, params, (FROM, size_t voice, float *numbers, uint32_t *named), (together, voice, numbers, named))

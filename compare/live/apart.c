@@ -46,7 +46,7 @@ uint32_t compare_apart_trigger(compare_arrays *arrays, size_t voice, uint32_t ki
 
 uint32_t compare_apart_chord(compare_arrays *arrays, const size_t *voices, size_t count, uint32_t kind)
 {
-    return worfelli_live_chord(ARRAYS(arrays), voices, count, kind);
+    return worfelli_apart_chord(ARRAYS(arrays), voices, count, kind);
 }
 
 uint32_t compare_apart_release(compare_arrays *arrays, size_t voice)

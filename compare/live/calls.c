@@ -38,6 +38,12 @@ uint32_t compare_bank_chord(worfelli_bank *bank, const size_t *voices, size_t co
     return worfelli_bank_chord(bank, voices, count, kind);
 }
 
+/* By the other name that takes a pointer. */
+uint32_t compare_live_chord(worfelli_bank *bank, const size_t *voices, size_t count, uint32_t kind)
+{
+    return worfelli_live_chord(bank, voices, count, kind);
+}
+
 uint32_t compare_bank_release(worfelli_bank *bank, size_t voice)
 {
     return worfelli_bank_release(bank, voice);

@@ -3,6 +3,7 @@
 
 use compare::banks::calls::{Call, Reading};
 use compare::banks::lists::{Draft, List};
+use compare::calls::Settings;
 use compare::live::checked::Checked;
 use compare::live::expected::Expecting;
 use compare::live::functions::{BYTES, Functions, LiveBank, agrees};
@@ -242,6 +243,34 @@ fn arrays_apart() {
         // All but the version.
         assert!(apart.state() == c.state()[..BYTES - 4]);
     }
+}
+
+/// By either name a chord has the same answer and leaves the same bank.
+#[test]
+fn a_chord_by_either_name() {
+    let mut banks = [LiveBank::zeros(), LiveBank::zeros()];
+    for bank in &mut banks {
+        let amp = Settings::from(&EnvelopeParams::AMP);
+        assert_eq!(bank.open(3, &amp, &Timing::new(1e3)), 0);
+    }
+    let [header, live] = &mut banks;
+    for (voices, kind, refusal) in [
+        (&[2, 0][..], 0, 0),
+        (&[1], 2, 0),
+        (&[], 1, 0),
+        (&[0], 3, 10),
+        (&[1, 3, 1], 0, 12),
+        (&[1, 3], 0, 2),
+    ] {
+        assert_eq!(header.chord(voices, kind), refusal);
+        assert_eq!(live.live_chord(voices, kind), refusal);
+        assert!(header.bytes() == live.bytes());
+    }
+    let mut stages = [0; 3];
+    for (voice, stage) in stages.iter_mut().enumerate() {
+        assert_eq!(live.stage(voice, stage), 0);
+    }
+    assert_eq!(stages, [2, 2, 2]);
 }
 
 /// A bank that was never opened has whatever bytes; what a refused reading was

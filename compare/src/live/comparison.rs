@@ -90,11 +90,15 @@ impl Compared for Comparison {
         let ThroughC {
             copies,
             over_any_bytes,
+            live_chords,
             ..
         } = self.c.host;
-        println!("over C: {copies} copies of a bank, {over_any_bytes} lists opened over any bytes");
+        println!(
+            "over C: {copies} copies of a bank, {over_any_bytes} lists opened over any bytes,"
+        );
+        println!("  {live_chords} chords by worfelli_live_chord");
         let (calls, codes) = (self.coverage.print(), self.unnamed.coverage.print());
-        calls && codes && copies > 0 && over_any_bytes > 0
+        calls && codes && copies > 0 && over_any_bytes > 0 && live_chords > 0
     }
 
     fn tallies(self) -> Vec<Tally> {

@@ -210,8 +210,15 @@ functions!(Arrays<'_>: compare_apart_open, compare_apart_set_params, compare_apa
     compare_apart_stride, compare_apart_params, compare_apart_stage, compare_apart_level,
     compare_apart_is_idle, compare_apart_tail, compare_apart_lead);
 
+// SAFETY: as above.
 unsafe extern "C" {
     safe fn compare_agrees() -> i32;
+    fn compare_live_chord(
+        bank: &mut LiveBank,
+        voices: *const usize,
+        count: usize,
+        kind: u32,
+    ) -> u32;
 }
 
 /// Whether header and library agree on a bank.
@@ -248,6 +255,12 @@ impl LiveBank {
             codes: [0; 389],
             version: 0,
         }
+    }
+
+    /// A chord by `worfelli_live_chord`.
+    pub fn live_chord(&mut self, voices: &[usize], kind: u32) -> u32 {
+        // SAFETY: pointer and count are those of a slice.
+        unsafe { compare_live_chord(self, voices.as_ptr(), voices.len(), kind) }
     }
 
     /// What was written by the opening.

@@ -45,9 +45,11 @@ pub struct ThroughC {
     at: usize,
     side: Side,
     random: Random,
-    /// How often it was copied, and opened over any bytes.
+    /// How often it was copied, and opened over any bytes, and its chords were made
+    /// by `worfelli_live_chord`.
     pub copies: u64,
     pub over_any_bytes: u64,
+    pub live_chords: u64,
 }
 
 impl ThroughC {
@@ -65,6 +67,7 @@ impl ThroughC {
             random: Random::named(seed, "copies"),
             copies: 0,
             over_any_bytes: 0,
+            live_chords: 0,
         })
     }
 
@@ -109,8 +112,13 @@ impl Host for ThroughC {
         if self.random.below(COPIED) == 0 {
             self.copy();
         }
-        let (bank, entries) = self.parts();
-        self::call(bank, entries, call, out)
+        match Coded::of(call) {
+            Some(coded) => self.coded(&coded),
+            None => {
+                let (bank, entries) = self.parts();
+                self::call(bank, entries, call, out)
+            }
+        }
     }
 
     fn reading(&mut self, voice: u64) -> Reading {
@@ -123,9 +131,19 @@ impl Host for ThroughC {
 }
 
 impl Codes for ThroughC {
+    /// A chord has two names: half of them are made by each.
     fn coded(&mut self, coded: &Coded) -> u32 {
-        let (bank, entries) = self.parts();
-        self::coded(bank, entries, coded)
+        match coded {
+            Coded::Chord(voices, kind) if self.random.coin() => {
+                self.live_chords += 1;
+                let (bank, entries) = self.parts();
+                bank.live_chord(entries.list(voices), *kind)
+            }
+            _ => {
+                let (bank, entries) = self.parts();
+                self::coded(bank, entries, coded)
+            }
+        }
     }
 }
 

@@ -126,6 +126,16 @@ pub extern "C" fn worfelli_struct_chord(bank: &mut Bank, voices: &[usize], kind:
     }
 }
 
+// The same, for what calls it by its first name.
+#[unsafe(no_mangle)]
+pub extern "C" fn worfelli_live_chord(bank: &mut Bank, voices: &[usize], kind: u32) -> u32
+    ensures refusal { result ≡ (Live.answer (ltb kind 3) (Banks.bank_of bank.old.arrays) (Call.chord voices.now (Format.kind kind))).refusal }
+    ensures bank { Banks.bank_of bank.new.arrays ≡ (Live.answer (ltb kind 3) (Banks.bank_of bank.old.arrays) (Call.chord voices.now (Format.kind kind))).bank }
+    ensures kept { Lent.Kept result bank.old.arrays bank.new.arrays }
+{
+    worfelli_struct_chord(bank, voices, kind)
+}
+
 // The end of a voice's note. Refused, as the two calls below: 2.
 #[unsafe(no_mangle)]
 pub extern "C" fn worfelli_struct_release(bank: &mut Bank, voice: usize) -> u32

@@ -143,9 +143,10 @@ pub extern "C" fn worfelli_live_trigger(
     answer
 }
 
-// A note for each of these voices, by its kind of trigger. Refused: 10, 12, 2.
+// A note for each of these voices, by its kind of trigger. Refused: 10, 12, 2. `worfelli_live_chord` takes a bank's
+// pointer.
 #[unsafe(no_mangle)]
-pub extern "C" fn worfelli_live_chord(
+pub extern "C" fn worfelli_apart_chord(
     f: &mut Floats,
     k: &mut Bends,
     n: &mut Counts,
