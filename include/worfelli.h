@@ -39,9 +39,9 @@ extern "C" {
 
 /* The version of this header's types and functions. A library of another version may take other parameters
  * or lay a bank out in another way; worfelli_agrees() tells. There was a version 2, whose functions
- * worfelli_live_... took a pointer to a bank, as worfelli_struct_... do here and worfelli_live_chord, which
- * came with it, still does. A new function alone makes no new version, since linking fails with a library
- * that lacks it. */
+ * worfelli_live_... took a pointer to a bank, as worfelli_struct_... do here; worfelli_live_chord, which came
+ * while it stood, takes it still. A new function alone makes no new version, since linking fails with a
+ * library that lacks it. */
 #define WORFELLI_VERSION 1u
 
 /* The first and the last version whose banks lie as this one's: a stored bank of any version from the one to
@@ -186,10 +186,10 @@ uint32_t worfelli_struct_lead(const worfelli_bank *bank, size_t voice, uint64_t 
 /* worfelli_struct_chord by the name that it came with. */
 uint32_t worfelli_live_chord(worfelli_bank *bank, const size_t *voices, size_t count, uint32_t kind);
 
-/* The same calls on a bank's four arrays one by one: for a host whose arrays lie apart, and for what was
- * compiled with an earlier header of version 1, whose functions worfelli_bank_... call these. Each copies the
- * arrays into a bank of its own, 9,084 bytes, and a call that is accepted, and is no reading, copies them back;
- * so in C, use the functions below. A chord's is worfelli_apart_chord. */
+/* The same calls on a bank's four arrays one by one, a chord by worfelli_apart_chord: for a host whose arrays
+ * lie apart, and for what was compiled with the first header, whose functions worfelli_bank_... call these. Each
+ * copies the arrays into a bank of its own, 9,084 bytes, and a call that is accepted, and is no reading, copies
+ * them back; so in C, use the functions below. */
 uint32_t worfelli_live_open(float *floats, double *bends, uint64_t *counts, uint32_t *codes, size_t voices,
                             const float *numbers, const uint32_t *named, double sample_rate, double tempo,
                             double scale);

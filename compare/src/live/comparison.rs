@@ -96,7 +96,7 @@ impl Compared for Comparison {
         println!(
             "over C: {copies} copies of a bank, {over_any_bytes} lists opened over any bytes,"
         );
-        println!("  {live_chords} chords by worfelli_live_chord");
+        println!("  {live_chords} chords accepted by worfelli_live_chord");
         let (calls, codes) = (self.coverage.print(), self.unnamed.coverage.print());
         calls && codes && copies > 0 && over_any_bytes > 0 && live_chords > 0
     }

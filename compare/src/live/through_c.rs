@@ -1,7 +1,7 @@
-//! A bank that is called through the header's functions. It lies at an unmapped
-//! page, as the list of a chord does, so that no call can read or write past the
-//! ends, and is copied elsewhere now and then: a copy has to go on as the bank
-//! would have.
+//! A bank that is called through the header's functions, half of its chords by
+//! `worfelli_live_chord`. It lies at an unmapped page, as the list of a chord does,
+//! so that no call can read or write past the ends, and is copied elsewhere now and
+//! then: a copy has to go on as the bank would have.
 
 use crate::banks::calls::{Call, MOST_ENTRIES, Reading};
 use crate::calls::{Reply, Settings};
@@ -45,8 +45,8 @@ pub struct ThroughC {
     at: usize,
     side: Side,
     random: Random,
-    /// How often it was copied, and opened over any bytes, and its chords were made
-    /// by `worfelli_live_chord`.
+    /// How often it was copied, opened over any bytes, and accepted a chord by
+    /// `worfelli_live_chord`.
     pub copies: u64,
     pub over_any_bytes: u64,
     pub live_chords: u64,
@@ -135,9 +135,10 @@ impl Codes for ThroughC {
     fn coded(&mut self, coded: &Coded) -> u32 {
         match coded {
             Coded::Chord(voices, kind) if self.random.coin() => {
-                self.live_chords += 1;
                 let (bank, entries) = self.parts();
-                bank.live_chord(entries.list(voices), *kind)
+                let answer = bank.live_chord(entries.list(voices), *kind);
+                self.live_chords += u64::from(answer == ACCEPTED);
+                answer
             }
             _ => {
                 let (bank, entries) = self.parts();
